@@ -1,0 +1,2 @@
+pub mod Lst
+pub mod LstLaws

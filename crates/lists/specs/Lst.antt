@@ -1,0 +1,46 @@
+-- Lists as document 01 has them: a finite sequence of atoms and lists, one constructor for each kind of first element.
+use Prim.Native.Nat.{ℕ, suc, _+_, _<_, _^_, max}
+
+pub data Lst : Type 0 where
+  nil : Lst
+  atom : ℕ → Lst → Lst
+  list : Lst → Lst → Lst
+
+-- the number of elements
+unfoldable pub len : Lst → ℕ
+len nil = 0
+len (atom v l) = suc (len l)
+len (list e l) = suc (len l)
+
+-- 1 if no element is a list, else one more than the greatest order among those that are
+unfoldable pub order : Lst → ℕ
+order nil = 1
+order (atom v l) = order l
+order (list e l) = max (suc (order e)) (order l)
+
+-- the length plus the extents of the elements
+unfoldable pub extent : Lst → ℕ
+extent nil = 0
+extent (atom v l) = suc (extent l)
+extent (list e l) = suc (extent e + extent l)
+
+-- l reversed before r
+unfoldable pub onto : Lst → Lst → Lst
+onto nil r = r
+onto (atom v l) r = onto l (atom v r)
+onto (list e l) r = onto l (list e r)
+
+unfoldable pub reversed : Lst → Lst
+reversed l = onto l nil
+
+-- r after l
+unfoldable pub joined : Lst → Lst → Lst
+joined nil r = r
+joined (atom v l) r = atom v (joined l r)
+joined (list e l) r = list e (joined l r)
+
+-- every atom is a whole number from 0 to 2^32 - 1
+unfoldable pub Atoms : Lst → Type 0
+Atoms nil = Unit {0}
+Atoms (atom v l) = (v < 2 ^ 32) × Atoms l
+Atoms (list e l) = Atoms e × Atoms l

@@ -1,0 +1,19 @@
+-- Laws of lists: reversing twice, and reversing by joining. By induction on the first list.
+use mathlib.Core.Path.{_≡_, refl, ap, _∙_}
+use Rattle.lists.specs.Lst.{Lst, nil, atom, list, onto, reversed, joined}
+
+pub onto-onto : (l r s : Lst) → onto (onto l r) s ≡ onto r (joined l s)
+unfolding onto joined
+onto-onto nil r s = refl
+onto-onto (atom v l) r s = onto-onto l (atom v r) s
+onto-onto (list e l) r s = onto-onto l (list e r) s
+
+pub joined-nil : (l : Lst) → joined l nil ≡ l
+unfolding joined
+joined-nil nil = refl
+joined-nil (atom v l) = ap (atom v) (joined-nil l)
+joined-nil (list e l) = ap (list e) (joined-nil l)
+
+pub reversed-twice : (l : Lst) → reversed (reversed l) ≡ l
+unfolding reversed onto
+reversed-twice l = onto-onto l nil nil ∙ joined-nil l
