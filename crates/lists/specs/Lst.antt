@@ -24,6 +24,12 @@ extent nil = 0
 extent (atom v l) = suc (extent l)
 extent (list e l) = suc (extent e + extent l)
 
+-- the longest way through a list, by its elements and their elements
+unfoldable pub path : Lst → ℕ
+path nil = 0
+path (atom v l) = suc (path l)
+path (list e l) = suc (max (path e) (path l))
+
 -- l reversed before r
 unfoldable pub onto : Lst → Lst → Lst
 onto nil r = r

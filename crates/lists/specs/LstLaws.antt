@@ -1,6 +1,14 @@
--- Laws of lists: reversing twice, and reversing by joining. By induction on the first list.
+-- Laws of lists: the length against the longest way, reversing twice. By induction on the first list.
 use mathlib.Core.Path.{_≡_, refl, ap, _∙_}
-use Rattle.lists.specs.Lst.{Lst, nil, atom, list, onto, reversed, joined}
+use Prim.Native.Nat.{ℕ, _≤_}
+use native.Mathlib.Omega.{arith}
+use Rattle.lists.specs.Lst.{Lst, len, path, nil, atom, list, onto, reversed, joined}
+
+pub len-path : (l : Lst) → len l ≤ path l
+unfolding len path
+len-path nil = omega arith
+len-path (atom v l) = omega (arith, len-path l)
+len-path (list e l) = omega (arith, len-path l)
 
 pub onto-onto : (l r s : Lst) → onto (onto l r) s ≡ onto r (joined l s)
 unfolding onto joined
