@@ -10,11 +10,11 @@ use lib.Dec.{eqb, leb}
 use lib.ListN.{length}
 use borrow.Author.Tests.{eqb-true, eq-eqb, ne-eqb, leb-true, le-leb}
 use Rattle.pool.specs.Tally.{same, same-of, Same, eq, ne, same?, tally, occ}
-use Rattle.pool.specs.Pool.{Cell, Pool, at, kindOf, countOf, nextOf, Live, Chain, mark, lives, frees, Sound}
+use Rattle.pool.specs.Pool.{Cell, Pool, at, kindOf, countOf, nextOf, Live, Chain, mark, frees, Sound}
 use Rattle.pool.specs.Check.{Peeling, lowered, meet, arrow, taken, pop, popped, turns, named, unmet, afterHolders, chained, kinded, allKinded, peeled?, check}
 use Rattle.pool.specs.Edit.{live-cell, mark-past}
 use Rattle.pool.specs.SoundLaws.{sound-held, held-sound}
-use Rattle.pool.specs.Room.{frees-lives}
+use Rattle.pool.specs.Room.{lives-le, frees-lives}
 use Rattle.pool.specs.Chains.{chain-full, sound-chain-length}
 use Rattle.pool.specs.CheckInv.{PeelInv, turns-inv, named-inv, holders-inv, passed, passes}
 
@@ -104,16 +104,13 @@ emptied (suc k) cs st₀ = go (turns k cs st₀) ((turns k cs st₀) .stack) ref
     go st (c ∷ xs) e (inl n) = absurd (omega (arith, ap length (sym e ∙ n)))
     go st (c ∷ xs) e (inr l) = inr (omega (arith, pop-gone cs c xs st))
 
-pub few : (cs : List Cell) → lives cs ≤ length cs
-few cs = omega (arith, frees-lives cs)
-
 no-length : (xs : List ℕ) → length xs ≡ 0 → xs ≡ []
 no-length [] e = refl
 no-length (x ∷ xs) e = absurd (omega arith)
 
 -- the stack has room in as many words as there are cells, at every turn
 pub stack-fits : (cs : List Cell) (r₀ rest : ℕ → ℕ) (st : Peeling) → PeelInv cs r₀ rest st → st .gone + length (st .stack) ≤ length cs
-stack-fits cs r₀ rest st i = omega (arith, i .number, few cs)
+stack-fits cs r₀ rest st i = omega (arith, i .number, lives-le cs)
 
 pub ends : (p : Pool) → (turns (length (p .cells)) (p .cells) (afterHolders p)) .stack ≡ []
 ends p = go (emptied (length (p .cells)) (p .cells) (afterHolders p))

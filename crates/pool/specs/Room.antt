@@ -26,7 +26,7 @@ lives-full (x ∷ xs) h =
     shifted [] g (suc c) = refl
     shifted (y ∷ ys) g (suc c) = g (suc (suc c))
 
-lives-le : (cs : List Cell) → lives cs ≤ length cs
+pub lives-le : (cs : List Cell) → lives cs ≤ length cs
 unfolding lives tally
 lives-le [] = omega arith
 lives-le (x ∷ xs) = go (lives-le xs) (ℕ-discrete (x .count) 0)

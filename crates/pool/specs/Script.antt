@@ -4,6 +4,7 @@ use mathlib.Core.List.{List, [], _∷_}
 use Prim.Native.Nat.{ℕ, suc}
 use lib.Dec.{eqb, leb, ltb}
 use lib.ListN.{length}
+use Rattle.answers.specs.Answers.{DONE, CODE, HOLDER, SAME, NULL, OCCUPIED, SHARED, NO-ROOM}
 use Rattle.pool.specs.Pool.{Pool, at, countOf, holder, frees}
 use Rattle.pool.specs.Operations.{pfa, pfl, decap, adv, borrow, erase, inv, cinv, conc, lengthOf, sharedAt}
 
@@ -56,33 +57,33 @@ among c (d ∷ ds) = eqb c d || among c ds
 abbrev pub usesB : ℕ → Bool
 usesB c = among c (PFL ∷ DECAP ∷ ADV ∷ BORROW ∷ CINV ∷ CONC ∷ [])
 
--- 6 CODE: not 1 to 11
+-- CODE: not 1 to 11
 abbrev pub badCode : Operation → Bool
 badCode o = not (leb PFA (o .code) && leb (o .code) LENGTH)
 
--- 7 HOLDER: a used holder that is none
+-- HOLDER: a used holder that is none
 abbrev pub badHolder : Pool → Operation → Bool
 badHolder p o = leb (length (p .holders)) (o .a) || (usesB (o .code) && leb (length (p .holders)) (o .b))
 
--- 8 SAME: a = b where both are used
+-- SAME: a = b where both are used
 abbrev pub sameHolder : Operation → Bool
 sameHolder o = usesB (o .code) && eqb (o .a) (o .b)
 
--- 9 NULL: a is null
+-- NULL: a is null
 abbrev pub nullList : Pool → Operation → Bool
 nullList p o = among (o .code) (DECAP ∷ ADV ∷ FIRST ∷ []) && eqb (holder p (o .a)) 0
 
--- 10 OCCUPIED: b is not null
+-- OCCUPIED: b is not null
 abbrev pub occupied : Pool → Operation → Bool
 occupied p o = among (o .code) (DECAP ∷ ADV ∷ BORROW ∷ CINV ∷ []) && not (eqb (holder p (o .b)) 0)
 
--- 11 SHARED: the first count of a is over 1, or some main-level count of a
+-- SHARED: the first count of a is over 1, or some main-level count of a
 abbrev pub sharedCells : Pool → Operation → Bool
 sharedCells p o =
     (eqb (o .code) DECAP && ltb 1 (countOf (p .cells) (holder p (o .a))))
     || ((eqb (o .code) INV || (eqb (o .code) CONC && not (eqb (holder p (o .b)) 0))) && sharedAt p (o .a))
 
--- 12 NO ROOM: cells needed exceed the free cells
+-- NO ROOM: cells needed exceed the free cells
 abbrev pub needed : Pool → Operation → ℕ
 needed p o = cond (among (o .code) (PFA ∷ PFL ∷ [])) 1 (cond (eqb (o .code) CINV) (lengthOf p (o .a)) 0)
 
@@ -92,33 +93,33 @@ noRoom p o = ltb (frees (p .cells)) (needed p o)
 -- the answer of the first test that holds, 0 where none does
 unfoldable pub refusal : Pool → Operation → ℕ
 refusal p o =
-    cond (badCode o) 6
-    (cond (badHolder p o) 7
-    (cond (sameHolder o) 8
-    (cond (nullList p o) 9
-    (cond (occupied p o) 10
-    (cond (sharedCells p o) 11
-    (cond (noRoom p o) 12 0))))))
+    cond (badCode o) CODE
+    (cond (badHolder p o) HOLDER
+    (cond (sameHolder o) SAME
+    (cond (nullList p o) NULL
+    (cond (occupied p o) OCCUPIED
+    (cond (sharedCells p o) SHARED
+    (cond (noRoom p o) NO-ROOM DONE))))))
 
 -- an operation done: the pool after it, and the two result words
-pub record Done : Type 0 where
+pub record Effect : Type 0 where
   pub pool : Pool
   pub kind : ℕ
   pub value : ℕ
 
 -- 0 and the first element of a where it is an atom, else 1 and 0
-abbrev pub tellsFirst : Pool → ℕ → Pool → Done
+abbrev pub tellsFirst : Pool → ℕ → Pool → Effect
 tellsFirst p a q =
     let x = at (p .cells) (holder p a) in
     record { pool = q; kind = x .kind; value = cond (eqb (x .kind) 0) (x .elem) 0 }
 
-abbrev pub tellsNumber : ℕ → Pool → Done
+abbrev pub tellsNumber : ℕ → Pool → Effect
 tellsNumber n q = record { pool = q; kind = 2; value = n }
 
-abbrev pub tellsNothing : Pool → Done
+abbrev pub tellsNothing : Pool → Effect
 tellsNothing q = record { pool = q; kind = 3; value = 0 }
 
-unfoldable pub effect : Pool → Operation → Done
+unfoldable pub effect : Pool → Operation → Effect
 effect p o =
     cond (eqb (o .code) PFA) (tellsNothing (pfa p (o .a) (o .v)))
     (cond (eqb (o .code) PFL) (tellsNothing (pfl p (o .a) (o .b)))
@@ -142,12 +143,12 @@ pub record Run : Type 0 where
 abbrev pub stops : Pool → ℕ → Run
 stops p n = record { pool = p; answer = n; done = 0; results = [] }
 
-abbrev pub goesOn : Done → Run → Run
+abbrev pub goesOn : Effect → Run → Run
 goesOn d r = record { pool = r .pool; answer = r .answer; done = suc (r .done); results = d .kind ∷ d .value ∷ r .results }
 
 -- the operations one after another, up to the first that is refused
 unfoldable pub performed : Pool → List Operation → Run
-performed p [] = stops p 0
+performed p [] = stops p DONE
 performed p (o ∷ os) =
     let r = performed (effect p o .pool) os in
-    cond (eqb (refusal p o) 0) (goesOn (effect p o) r) (stops p (refusal p o))
+    cond (eqb (refusal p o) DONE) (goesOn (effect p o) r) (stops p (refusal p o))

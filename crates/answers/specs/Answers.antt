@@ -1,0 +1,88 @@
+-- The answer numbers of document 01 by their names, and what a call gives besides what it lends: an answer and a number.
+use Prim.Native.Nat.{ℕ}
+use Rattle.answers.specs.declared.Outcome.{Outcome}
+
+abbrev pub DONE : ℕ
+DONE = 0
+
+-- N or the length is wrong
+abbrev pub TABLE-SIZE : ℕ
+TABLE-SIZE = 1
+
+-- fewer than 2 N words are lent
+abbrev pub WORK-SPACE : ℕ
+WORK-SPACE = 2
+
+-- no multiple of four words, or too many operations
+abbrev pub SCRIPT : ℕ
+SCRIPT = 3
+
+-- fewer than two words for each operation
+abbrev pub RESULTS : ℕ
+RESULTS = 4
+
+-- the table is not sound
+abbrev pub UNSOUND : ℕ
+UNSOUND = 5
+
+-- not 1 to 11
+abbrev pub CODE : ℕ
+CODE = 6
+
+-- a used holder that is none
+abbrev pub HOLDER : ℕ
+HOLDER = 7
+
+-- a = b where both are used
+abbrev pub SAME : ℕ
+SAME = 8
+
+-- a is null
+abbrev pub NULL : ℕ
+NULL = 9
+
+-- the holder that is to be filled is not null
+abbrev pub OCCUPIED : ℕ
+OCCUPIED = 10
+
+-- a count over 1 where only one is allowed
+abbrev pub SHARED : ℕ
+SHARED = 11
+
+-- cells needed exceed the free cells
+abbrev pub NO-ROOM : ℕ
+NO-ROOM = 12
+
+-- no multiple of 72 bytes, or too many
+abbrev pub TEXT-SIZE : ℕ
+TEXT-SIZE = 13
+
+-- text of 0 bytes
+abbrev pub END : ℕ
+END = 14
+
+-- a character that is not allowed there, or text that runs out
+abbrev pub NOT-A-LIST : ℕ
+NOT-A-LIST = 15
+
+-- an atom with too many digits, or too large
+abbrev pub ATOM : ℕ
+ATOM = 16
+
+-- one level too many
+abbrev pub DEEP : ℕ
+DEEP = 17
+
+-- a character that the output cannot take
+abbrev pub OUTPUT : ℕ
+OUTPUT = 18
+
+abbrev pub outcome : ℕ → ℕ → Outcome
+outcome n k = record { answer = n; count = k }
+
+-- a refused call gives 0 beside its answer
+abbrev pub refused : ℕ → Outcome
+refused n = outcome n 0
+
+abbrev pub done : ℕ → Outcome
+done k = outcome DONE k

@@ -1,0 +1,76 @@
+// The answer numbers of document 01, and the answer of a call with the number beside it.
+ghost use mathlib.Core.Path.{_≡_};
+ghost use Rattle.answers.specs.Answers.{refused, done, outcome};
+
+pub struct Answer(pub u32);
+
+impl Answer {
+    pub const DONE: u32 = 0;
+
+    pub const TABLE_SIZE: u32 = 1;
+
+    pub const WORK_SPACE: u32 = 2;
+
+    pub const SCRIPT: u32 = 3;
+
+    pub const RESULTS: u32 = 4;
+
+    pub const UNSOUND: u32 = 5;
+
+    pub const CODE: u32 = 6;
+
+    pub const HOLDER: u32 = 7;
+
+    pub const SAME: u32 = 8;
+
+    pub const NULL: u32 = 9;
+
+    pub const OCCUPIED: u32 = 10;
+
+    pub const SHARED: u32 = 11;
+
+    pub const NO_ROOM: u32 = 12;
+
+    pub const TEXT_SIZE: u32 = 13;
+
+    pub const END: u32 = 14;
+
+    pub const NOT_A_LIST: u32 = 15;
+
+    pub const ATOM: u32 = 16;
+
+    pub const DEEP: u32 = 17;
+
+    pub const OUTPUT: u32 = 18;
+}
+
+// An answer, and operations done, bytes taken or bytes written.
+#[repr(C)]
+pub struct Outcome {
+    pub answer: u32,
+    pub count: u32,
+}
+
+impl Outcome {
+    pub fn refused(answer: u32) -> Outcome
+        ensures { λ r. ⌜ r ≡ refused answer ⌝ }
+    {
+        Outcome { answer, count: 0 }
+    }
+
+    pub fn done(count: u32) -> Outcome
+        ensures { λ r. ⌜ r ≡ done count ⌝ }
+    {
+        Outcome {
+            answer: Answer::DONE,
+            count,
+        }
+    }
+
+    // A script that stops at an operation gives the number of those done before it.
+    pub fn stopped(answer: u32, count: u32) -> Outcome
+        ensures { λ r. ⌜ r ≡ outcome answer count ⌝ }
+    {
+        Outcome { answer, count }
+    }
+}

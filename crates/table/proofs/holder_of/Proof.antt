@@ -1,0 +1,25 @@
+use Rattle.table.specs.ViewLaws.{read-holder}
+use Prim.Native.Nat.{_+_}
+use native.Mathlib.Omega.{arith}
+use borrow.Author.Needs.{needs}
+use Rattle.table.proofs.holder_of.Statement.{statement}
+use Rattle.table.proofs.holder_of.Tie as tie
+
+add-result : tie.Need-add-result
+add-result c = search needs
+
+mul-result : tie.Need-mul-result
+mul-result c = search needs
+
+shared-slice-read-result : tie.Need-shared-slice-read-result
+shared-slice-read-result c = search needs
+
+cast-result : tie.Need-cast-result
+cast-result c = omega (arith, c .shared-slice-known .given (2 + c .before .args .h))
+
+returns : tie.Need-returns
+returns c = (read-holder (c .before .args .s) (c .before .args .t .now) (c .before .pre .0) (c .before .args .h) (c .before .pre .1), omega (arith, c .shared-slice-known .given (2 + c .before .args .h)))
+
+pub holder-of-spec : {M : Type 1} → statement M
+holder-of-spec =
+    tie.close (tie.spec add-result mul-result shared-slice-read-result cast-result returns)
