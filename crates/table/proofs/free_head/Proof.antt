@@ -1,6 +1,7 @@
-use Rattle.table.specs.ViewLaws.{read-free}
+-- `table::free_head` meets its contract.
 use native.Mathlib.Omega.{arith}
 use borrow.Author.Needs.{needs}
+use Rattle.table.specs.ViewLaws.{read-free}
 use Rattle.table.proofs.free_head.Statement.{statement}
 use Rattle.table.proofs.free_head.Tie as tie
 

@@ -1,7 +1,8 @@
-use Rattle.table.specs.ViewLaws.{read-holder}
+-- `table::holder_of` meets its contract.
 use Prim.Native.Nat.{_+_}
 use native.Mathlib.Omega.{arith}
 use borrow.Author.Needs.{needs}
+use Rattle.table.specs.ViewLaws.{read-holder}
 use Rattle.table.proofs.holder_of.Statement.{statement}
 use Rattle.table.proofs.holder_of.Tie as tie
 

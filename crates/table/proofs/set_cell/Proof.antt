@@ -1,8 +1,9 @@
+-- `table::set_cell` meets its contract.
 use native.Mathlib.Omega.{arith}
+use borrow.Author.Needs.{needs}
 use Rattle.table.specs.Fields.{putField}
 use Rattle.table.specs.View.{view}
 use Rattle.table.specs.ViewLaws.{after, said, all-four}
-use borrow.Author.Needs.{needs}
 use Rattle.table.proofs.set_cell.Statement.{statement}
 use Rattle.table.proofs.set_cell.Tie as tie
 

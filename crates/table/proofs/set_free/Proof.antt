@@ -1,6 +1,7 @@
+-- `table::set_free` meets its contract.
 use native.Mathlib.Omega.{arith}
-use Rattle.table.specs.ViewLaws.{keeps, store-free}
 use borrow.Author.Needs.{needs}
+use Rattle.table.specs.ViewLaws.{keeps, store-free}
 use Rattle.table.proofs.set_free.Statement.{statement}
 use Rattle.table.proofs.set_free.Tie as tie
 

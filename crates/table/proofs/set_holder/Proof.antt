@@ -1,7 +1,8 @@
+-- `table::set_holder` meets its contract.
 use Prim.Native.Nat.{_+_}
 use native.Mathlib.Omega.{arith}
-use Rattle.table.specs.ViewLaws.{keeps, store-holder}
 use borrow.Author.Needs.{needs}
+use Rattle.table.specs.ViewLaws.{keeps, store-holder}
 use Rattle.table.proofs.set_holder.Statement.{statement}
 use Rattle.table.proofs.set_holder.Tie as tie
 

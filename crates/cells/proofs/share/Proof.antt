@@ -1,0 +1,45 @@
+-- `cells::share` meets its contract.
+use Prim.Native.Nat.{ℕ, _+_}
+use mathlib.Core.Path.{ap, sym, _∙_}
+use mathlib.Core.List.{List}
+use native.Mathlib.Nat.{pos-of-ne-zero}
+use native.Mathlib.Omega.{arith}
+use borrow.Author.Needs.{needs}
+use Rattle.pool.specs.Pool.{Cell}
+use Rattle.table.specs.Fields.{celled, putCount}
+use Rattle.table.specs.View.{view}
+use Rattle.table.specs.ViewLaws.{itself, said}
+use Rattle.cells.specs.StepLaws.{share-null, share-on}
+use Rattle.cells.proofs.share.Statement.{statement}
+use Rattle.cells.proofs.share.Tie as tie
+
+count-of-requires : tie.Need-count-of-requires
+count-of-requires c κs = search needs
+
+add-n : tie.Need-add-n
+add-n c = search needs
+
+set-count-requires : tie.Need-set-count-requires
+set-count-requires c κs =
+    let c0 = c .before .before .before .before .before in
+    (c0 .pre .0, (record { low = pos-of-ne-zero (c .before .before .before .if1 .taken); high = c0 .pre .1 .0 }, omega (arith, c .before .count-of .ensures .0, c0 .pre .1 .1 (c .before .before .before .if1 .taken))))
+
+same-length : tie.Need-same-length
+same-length c = search needs
+
+returns : tie.Need-returns
+returns c =
+    let a = c .before .before .before .before .before .before .before .before .args in
+    let p = view (a .s) (a .t .now) in
+    said (c .before .before .set-count .ensures)
+    (ap (λ (n : ℕ). putCount (a .x) (n + 1) p) (c .before .before .before .before .count-of .ensures .0) ∙ ap (λ (cs : List Cell). celled cs p) (sym (share-on (p .cells) (a .x) (c .before .before .before .before .before .before .if1 .taken))))
+
+returns-2 : tie.Need-returns-2
+returns-2 c =
+    let a = c .before .before .args in
+    let p = view (a .s) (a .t .now) in
+    said (itself (c .before .before .pre .0)) (ap (λ (cs : List Cell). celled cs p) (sym (share-null (p .cells) (a .x) (c .if1 .left))))
+
+pub share-spec : {M : Type 1} → statement M
+share-spec =
+    tie.close (tie.spec count-of-requires add-n set-count-requires same-length returns returns-2)
