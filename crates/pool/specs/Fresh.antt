@@ -5,13 +5,14 @@ use mathlib.Core.List.{List, [], _∷_}
 use Prim.Native.Nat.{ℕ, zero, suc, _+_, _≤_, _<_}
 use native.Mathlib.Decide.{ℕ-discrete}
 use native.Mathlib.Omega.{arith}
-use lib.ListN.{length, replicate}
+use lib.ListN.{length, replicate, getD, length-replicate}
 use Rattle.pool.specs.Tally.{same-ne, same-of, Same, eq, ne, same?, tally, occ}
-use Rattle.pool.specs.Pool.{at, countOf, nextOf, sends, Walk, Chain, mark, Sound}
+use Rattle.pool.specs.Pool.{at, countOf, nextOf, holder, ifLive, sends, Walk, Chain, mark, lives, frees, Sound}
 use Rattle.pool.specs.Operations.{laid, fresh}
 use Rattle.pool.specs.Edit.{find-tally, mark-cell, mark-past}
 use Rattle.pool.specs.Held.{into, sends-free}
 use Rattle.pool.specs.SoundLaws.{held-sound}
+use Rattle.pool.specs.Room.{frees-lives}
 
 laid-length : (i m : ℕ) → length (laid i m) ≡ m
 unfolding laid
@@ -98,3 +99,31 @@ fresh-sound (suc m) k l = held-sound (fresh (suc m) k) (record {
         go : Dec (mark (laid 0 (suc m)) c ≡ 0) → occ (ups 0 (suc m)) c + 0 ≡ mark (laid 0 (suc m)) c
         go (yes e) = omega arith
         go (no n) = let (u, v) = mark-past (laid 0 (suc m)) c (omega arith) in absurd (f u (omega (arith, laid-length 0 (suc m))))
+
+pub fresh-holders : (n k : ℕ) → length (fresh n k .holders) ≡ k
+unfolding fresh
+fresh-holders n k = length-replicate k 0
+
+pub fresh-cells : (n k : ℕ) → length (fresh n k .cells) ≡ n
+unfolding fresh
+fresh-cells n k = laid-length 0 n
+
+pub zero-at : (k h : ℕ) (z : ℕ) → z ≡ 0 → getD (replicate k z) h 0 ≡ 0
+zero-at zero h z e = refl
+zero-at (suc k) zero z e = e
+zero-at (suc k) (suc h) z e = zero-at k h z e
+
+pub fresh-null : (n k h : ℕ) → holder (fresh n k) h ≡ 0
+unfolding fresh
+fresh-null n k h = zero-at k h 0 refl
+
+-- no cell is live, so all are free
+laid-lives : (i m : ℕ) → lives (laid i m) ≡ 0
+unfolding laid lives tally ifLive
+laid-lives i zero = refl
+laid-lives i (suc zero) = refl
+laid-lives i (suc (suc m)) = omega (arith, laid-lives (suc i) (suc m))
+
+pub fresh-frees : (n k : ℕ) → frees (fresh n k .cells) ≡ n
+unfolding fresh
+fresh-frees n k = omega (arith, frees-lives (laid 0 n), laid-lives 0 n, laid-length 0 n)

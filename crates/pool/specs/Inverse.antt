@@ -95,8 +95,8 @@ module _ (f : ℕ) (cs : List Cell) (x y : ℕ) (r : ℕ → ℕ) (t : Turned f 
   pub without : (l : Lst) (c : ℕ) → (c ≡ 0) ⊎ (0 < gives c (at cs x) + same y c + r c) → ListAt cs c l → ListAt (setCount cs x 0) c l
   without l c o h = ListAt-kept f cs (setCount cs x 0) (λ d. gives d (at cs x) + same y d + r d) (same x) (t .kept₁) (t .held₁) l c (null-or-root c o) h
 
-  pub after : (l : Lst) (c : ℕ) → (c ≡ 0) ⊎ (0 < gives c (at cs x) + same y c + r c) → ListAt cs c l → ListAt (setNext cs x y) c l
-  after l c o h = ListAt-grown (setCount cs x 0) (setNext cs x y) (λ d m. let e = t .like d m .1 in (subst (λ u. 0 < u .count) (sym e) m, ap (λ u. counted u 0) (sym e))) l c (without l c o h)
+  pub list-after : (l : Lst) (c : ℕ) → (c ≡ 0) ⊎ (0 < gives c (at cs x) + same y c + r c) → ListAt cs c l → ListAt (setNext cs x y) c l
+  list-after l c o h = ListAt-grown (setCount cs x 0) (setNext cs x y) (λ d m. let e = t .like d m .1 in (subst (λ u. 0 < u .count) (sym e) m, ap (λ u. counted u 0) (sym e))) l c (without l c o h)
 
 pub record Flipped (f : ℕ) (cs : List Cell) (l m : Lst) (r : ℕ → ℕ) (ds : List Cell) (z : ℕ) : Type 0 where
   pub held : Held f ds (λ d. same z d + r d) none-aside
@@ -128,7 +128,7 @@ flips f r (list e l) zero cs x y m s h lx o ly = absurd (omega arith)
 flips f r (atom v l) (suc k) cs x y m s h lx o ly =
     let t = turn f cs x y r h (o .0) in
     let ds : List Cell = setNext cs x y in
-    let on = after f cs x y r t in
+    let on = list-after f cs x y r t in
     let tail : (nextOf cs x ≡ 0) ⊎ (0 < gives (nextOf cs x) (at cs x) + same y (nextOf cs x) + r (nextOf cs x)) = inr (omega (arith, same-eq (nextOf cs x))) in
     let g = flips f r l k ds (nextOf cs x) x (atom v m) (omega arith) (t .held)
     (on l (nextOf cs x) tail (lx .3))
@@ -150,7 +150,7 @@ flips f r (atom v l) (suc k) cs x y m s h lx o ly =
 flips f r (list e l) (suc k) cs x y m s h lx o ly =
     let t = turn f cs x y r h (o .0) in
     let ds : List Cell = setNext cs x y in
-    let on = after f cs x y r t in
+    let on = list-after f cs x y r t in
     let tail : (nextOf cs x ≡ 0) ⊎ (0 < gives (nextOf cs x) (at cs x) + same y (nextOf cs x) + r (nextOf cs x)) = inr (omega (arith, same-eq (nextOf cs x))) in
     let head : (elemOf cs x ≡ 0) ⊎ (0 < gives (elemOf cs x) (at cs x) + same y (elemOf cs x) + r (elemOf cs x)) = inr (omega (arith, same-eq (elemOf cs x), gives-list (elemOf cs x) (at cs x) (lx .1))) in
     let g = flips f r l k ds (nextOf cs x) x (list e m) (omega arith) (t .held)

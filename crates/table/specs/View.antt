@@ -8,6 +8,9 @@ use Rattle.pool.specs.Pool.{Cell, Pool}
 use Rattle.table.specs.Limits.{cellsMost, holdersMost, tableWords}
 use Rattle.table.specs.Tab.{tab}
 
+abbrev pub shape : ℕ → Shape
+shape n = record { cells = n }
+
 -- the number of holders, and the greatest count
 abbrev pub holderCount : Shape → ℕ
 holderCount s = holdersMost

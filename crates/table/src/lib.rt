@@ -3,6 +3,8 @@ ghost use mathlib.Core.Path.{_≡_};
 ghost use Prim.Native.Nat.{_+_, _*_, _^_, _≤_, _<_};
 ghost use Rattle.pool.specs.Pool.{at, kindOf, elemOf, countOf, nextOf, holder};
 ghost use Rattle.table.specs.Fields.{field, cell, putField, putCell, putCount, putNext, putFree, putHolder};
+ghost use lib.ListN.{length};
+ghost use Rattle.table.specs.Sizes.{sizesFit, cellsOf, cleared};
 ghost use Rattle.table.specs.View.{holderCount, greatestCount, view, Table, IsCell, Shows};
 
 pub struct Cell(pub usize);
@@ -35,6 +37,45 @@ impl Shape {
         ensures { λ r. ⌜ r ≡ holderCount self ⌝ }
     {
         Holder::MOST
+    }
+}
+
+// Whether a table of n cells has that many words.
+pub fn fits(n: usize, words: usize) -> bool
+    ensures { λ r. ⌜ r ≡ sizesFit n words ⌝ }
+{
+    if n < 1 {
+        return false;
+    }
+    if n > Cell::MOST {
+        return false;
+    }
+    words == Holder::AT + Holder::MOST + Cell::WORDS * n
+}
+
+// The number of cells of a table, 0 where the words are none.
+pub fn cells_of(t: &[u32]) -> usize
+    ensures { λ r. ⌜ r ≡ cellsOf (now (t .entry)) ⌝ }
+{
+    if t.len() == 0 {
+        return 0;
+    }
+    let n = t[0] as usize;
+    if fits(n, t.len()) {
+        return n;
+    }
+    0
+}
+
+// The first n words become 0.
+pub fn clear(w: &mut [u32], n: usize)
+    requires { ⌜ n ≤ length (now w) ⌝ }
+    ensures { λ r. ⌜ now (w .exit) ≡ cleared n (now (w .entry)) ⌝ }
+{
+    let mut i = 0;
+    while i < n {
+        w[i] = 0;
+        i += 1;
     }
 }
 

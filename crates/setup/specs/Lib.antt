@@ -1,0 +1,3 @@
+pub mod SetUp
+pub mod Linked
+pub mod SetUpLaws

@@ -1,0 +1,28 @@
+-- What the call that sets up a pool gives, for every number of cells and all words.
+use mathlib.Core.Path.{_≡_}
+use mathlib.Core.Bool.{cond}
+use mathlib.Core.List.{List}
+use Prim.Native.Nat.{ℕ}
+use lib.ListN.{length}
+use Rattle.answers.specs.Answers.{DONE, TABLE-SIZE}
+use Rattle.pool.specs.Operations.{fresh}
+use Rattle.table.specs.Limits.{holdersMost}
+use Rattle.table.specs.Sizes.{sizesFit}
+use Rattle.table.specs.View.{shape, words}
+
+-- an answer, and the table's words afterwards
+pub record Given : Type 0 where
+  pub answer : ℕ
+  pub table : List ℕ
+
+-- TABLE SIZE, and nothing changed, where N or the length is wrong; else a fresh pool of n cells
+unfoldable pub setUp : List ℕ → ℕ → Given
+setUp ts n =
+    cond (sizesFit n (length ts))
+    (record { answer = DONE; table = words (shape n) (fresh n holdersMost) })
+    (record { answer = TABLE-SIZE; table = ts })
+
+-- r and us are what g says
+pub record SetUp (g : Given) (r : ℕ) (us : List ℕ) : Type 0 where
+  pub answer : r ≡ g .answer
+  pub table : us ≡ g .table
