@@ -2,17 +2,19 @@
 use mathlib.Core.Path.{_≡_, sym, ap, _∙_, subst}
 use mathlib.Core.Logic.{_≢_, inl, inr}
 use mathlib.Core.List.{List, [], _∷_}
-use Prim.Native.Nat.{ℕ, _+_, _*_, _≤_}
+use Prim.Native.Nat.{ℕ, _+_, _*_, _≤_, _<_}
 use native.Mathlib.Omega.{arith}
 use lib.ListN.{length}
 use Rattle.table.specs.declared.Shape.{Shape}
-use Rattle.pool.specs.Bound.{count-bound}
+use Rattle.pool.specs.Advance.{null-or-item}
+use Rattle.pool.specs.Bound.{count-bound, count-less}
 use Rattle.pool.specs.Edit.{live-cell, mark-past}
 use Rattle.pool.specs.Held.{Held}
-use Rattle.pool.specs.Pool.{Cell, Pool, countOf, nextOf, holder, NullOrLive, Chain, mark, Sound}
+use Rattle.pool.specs.Operations as operations
+use Rattle.pool.specs.Pool.{Cell, Pool, kindOf, countOf, nextOf, holder, Live, NullOrLive, Chain, mark, Sound}
 use Rattle.pool.specs.SoundLaws.{none-aside, sound-held}
 use Rattle.pool.specs.Tally.{same-of, tally, occ}
-use Rattle.table.specs.View.{view, Table, IsCell}
+use Rattle.table.specs.View.{holderCount, greatestCount, view, Table, IsCell}
 
 pub null-or-high : (cs : List Cell) (c : ℕ) → NullOrLive cs c → c ≤ length cs
 null-or-high cs c (inl e) = omega arith
@@ -58,6 +60,13 @@ pub record Spare (s : Shape) (p : Pool) : Type 0 where
   pub cell : IsCell s (p .free)
   pub next : nextOf (p .cells) (p .free) ≤ s .cells
 
+-- the first cell of a list, and its arrows
+pub record Head (s : Shape) (cs : List Cell) (x : ℕ) : Type 0 where
+  pub cell : IsCell s x
+  pub next : nextOf cs x ≤ s .cells
+  pub item : operations.item cs x ≤ s .cells
+  pub kind : kindOf cs x ≤ 1
+
 module _ (s : Shape) (ws : List ℕ) (t : Table s ws) (o : Sound (view s ws)) where
   pub spare : view s ws .free ≢ 0 → Spare s (view s ws)
   spare n = record {
@@ -67,3 +76,25 @@ module _ (s : Shape) (ws : List ℕ) (t : Table s ws) (o : Sound (view s ws)) wh
 
   pub holder-high : (h : ℕ) → holder (view s ws) h ≤ s .cells
   holder-high h = omega (arith, ranged (view s ws) o .holders-top h, t .measured)
+
+  -- one more arrow fits where a holder is null
+  pub count-high : (b c : ℕ) → b < holderCount s → holder (view s ws) b ≡ 0 → c ≢ 0 → countOf (view s ws .cells) c < greatestCount s
+  count-high b c l e n = omega (arith, count-less (view s ws) o b c (omega (arith, t .held)) e n, t .measured, t .held)
+
+  pub live-head : (x : ℕ) → Live (view s ws .cells) x → Head s (view s ws .cells) x
+  live-head x l =
+      let cs = view s ws .cells in
+      let kind : kindOf cs x ≤ 1 = sound-held (view s ws) o .kinds x l in
+      record {
+        cell = record { low = live-cell cs x l .0; high = omega (arith, live-cell cs x l .1, t .measured) };
+        next = omega (arith, null-or-high cs (nextOf cs x) (o .nexts x l), t .measured);
+        item = omega (arith, null-or-high cs (operations.item cs x) (null-or-item cs x kind (o .elems x l)), t .measured);
+        kind = kind;
+      }
+
+  pub holder-head : (h : ℕ) → holder (view s ws) h ≢ 0 → Head s (view s ws .cells) (holder (view s ws) h)
+  holder-head h n = live-head (holder (view s ws) h) (live-of (o .holds h))
+    where
+      live-of : NullOrLive (view s ws .cells) (holder (view s ws) h) → Live (view s ws .cells) (holder (view s ws) h)
+      live-of (inl e) = absurd (n e)
+      live-of (inr l) = l

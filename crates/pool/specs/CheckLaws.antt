@@ -123,12 +123,12 @@ ends p = go (emptied (length (p .cells)) (p .cells) (afterHolders p))
 
 -- the check, with any number of turns after which the stack is empty
 
-abbrev pub verdict : ℕ → Pool → Bool
-verdict k p = chained (frees (p .cells)) (p .cells) (p .free) && (allKinded (length (p .cells)) (p .cells) && peeled? (p .cells) (turns k (p .cells) (afterHolders p)))
+abbrev pub tested : ℕ → Pool → Bool
+tested k p = chained (frees (p .cells)) (p .cells) (p .free) && (allKinded (length (p .cells)) (p .cells) && peeled? (p .cells) (turns k (p .cells) (afterHolders p)))
 
-pub verdict-sound : (k : ℕ) (p : Pool) → (turns k (p .cells) (afterHolders p)) .stack ≡ [] → verdict k p ≡ true → Sound p
+pub tested-sound : (k : ℕ) (p : Pool) → (turns k (p .cells) (afterHolders p)) .stack ≡ [] → tested k p ≡ true → Sound p
 unfolding peeled?
-verdict-sound k p e h =
+tested-sound k p e h =
     let cs : List Cell = p .cells in
     let st : Peeling = turns k cs (afterHolders p) in
     let (h1, h2) = and-both (chained (frees cs) cs (p .free)) (allKinded (length cs) cs && peeled? cs st) h in
@@ -145,9 +145,9 @@ verdict-sound k p e h =
       acyclic = a;
     })
 
-pub sound-verdict : (k : ℕ) (p : Pool) → (turns k (p .cells) (afterHolders p)) .stack ≡ [] → Sound p → verdict k p ≡ true
+pub sound-tested : (k : ℕ) (p : Pool) → (turns k (p .cells) (afterHolders p)) .stack ≡ [] → Sound p → tested k p ≡ true
 unfolding peeled?
-sound-verdict k p e s =
+sound-tested k p e s =
     let cs : List Cell = p .cells in
     let st : Peeling = turns k cs (afterHolders p) in
     let h = sound-held p s in
@@ -161,7 +161,7 @@ sound-verdict k p e s =
 
 pub check-decides : (p : Pool) → (check p ≡ true) ↔ Sound p
 unfolding check
-check-decides p = (verdict-sound (length (p .cells)) p (ends p), sound-verdict (length (p .cells)) p (ends p))
+check-decides p = (tested-sound (length (p .cells)) p (ends p), sound-tested (length (p .cells)) p (ends p))
 
 -- the stack never has more entries than there are cells: while holders are dropped, and at every turn
 pub holders-stack : (p : Pool) (k : ℕ) → k ≤ length (p .holders) → length ((named k (p .holders) (unmet (p .cells))) .stack) ≤ length (p .cells)

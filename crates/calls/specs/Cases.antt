@@ -1,0 +1,111 @@
+-- The cases of document 01 that are marked P: one table under one theorem about the definitions. Each text is filled to a record and checked;
+-- if it is a list it is read into holder 0 of a new pool, and operations are performed on that.
+use Prim.Native.String.{String}
+use mathlib.Core.Path.{_≡_, refl}
+use mathlib.Core.Bool.{cond}
+use mathlib.Core.List.{List, [], _∷_, map}
+use Prim.Native.Nat.{ℕ, zero, suc}
+use lib.Dec.{eqb}
+use lib.ListN.{length, replicate}
+use Rattle.answers.specs.Answers.{DONE}
+use Rattle.lists.specs.Lst.{Lst, len, order, extent, onto, reversed}
+use Rattle.pool.specs.Erase.{run, visit, step, total, dropped}
+use Rattle.pool.specs.Operations.{read, laid, fresh, pfl, erase, span, load, listFrom, listOf}
+use Rattle.pool.specs.Pool.{Cell, nextOf, frees}
+use Rattle.pool.specs.Script.{refusal, PFL, ERASE, effect, Run, performed}
+use Rattle.pool.specs.Tally.{same, tally}
+use Rattle.table.specs.Limits.{holdersMost}
+use Rattle.text.specs.Limits.{recordBytes}
+use Rattle.text.specs.ListText.{textOf}
+use Rattle.text.specs.Marks.{listIn}
+use Rattle.text.specs.Text.{scanned, verdict}
+use Rattle.calls.specs.Entry.{over}
+use Rattle.calls.specs.Run.{operations}
+use Rattle.calls.specs.Chars.{chars}
+
+pub record Case : Type 0 where
+  pub text : String
+  pub cells : ℕ
+  pub script : List ℕ
+
+-- the check's answer; the list's length, order, extent and number of characters; its text and that of the list reversed; what the operations
+-- say, the text of what holder 0 then has, and the free chain
+pub record Row : Type 0 where
+  pub answer : ℕ
+  pub figures : List ℕ
+  pub text : List ℕ
+  pub backwards : List ℕ
+  pub results : List ℕ
+  pub after : List ℕ
+  pub free : List ℕ
+
+abbrev refusedRow : ℕ → Row
+refusedRow n = record { answer = n; figures = []; text = []; backwards = []; results = []; after = []; free = [] }
+
+-- the chain from c, at most k cells
+abbrev chainFrom : ℕ → List Cell → ℕ → List ℕ
+chainFrom zero cs c = []
+chainFrom (suc k) cs zero = []
+chainFrom (suc k) cs (suc i) = suc i ∷ chainFrom k cs (nextOf cs (suc i))
+
+abbrev listRow : Lst → Run → Row
+listRow l r = record {
+  answer = DONE;
+  figures = len l ∷ order l ∷ extent l ∷ length (textOf l) ∷ [];
+  text = textOf l;
+  backwards = textOf (reversed l);
+  results = r .results;
+  after = textOf (listOf (r .pool) 0);
+  free = chainFrom (length (r .pool .cells)) (r .pool .cells) (r .pool .free);
+}
+
+abbrev row : Case → Row
+row c =
+    let xs = over (chars (c .text)) (replicate recordBytes 32) in
+    let l = listIn xs in
+    cond (eqb (verdict xs .no) DONE) (listRow l (performed (read (fresh (c .cells) holdersMost) 0 l) (operations (c .script)))) (refusedRow (verdict xs .no))
+
+abbrev of-text : String → Case
+of-text s = record { text = s; cells = 6; script = [] }
+
+abbrev pub cases : List Case
+cases =
+    of-text "()" ∷
+    of-text "(())" ∷
+    of-text "((3),1,(1,2))" ∷
+    of-text "(012)" ∷
+    of-text "(37777777777)" ∷
+    of-text "(40000000000)" ∷
+    of-text "(000000000000)" ∷
+    of-text "(1,)" ∷
+    of-text "(,1)" ∷
+    of-text "(1(2))" ∷
+    of-text "(8)" ∷
+    record { text = "((3),1)"; cells = 4; script = ERASE ∷ 0 ∷ 0 ∷ 0 ∷ [] } ∷
+    record { text = "()"; cells = 1; script = PFL ∷ 0 ∷ 1 ∷ 0 ∷ [] } ∷
+    []
+
+-- a list on which nothing is performed
+abbrev stays : List ℕ → String → String → List ℕ → Row
+stays figures text backwards free = record { answer = DONE; figures = figures; text = chars text; backwards = chars backwards; results = []; after = chars text; free = free }
+
+abbrev pub stated : List Row
+stated =
+    stays (0 ∷ 1 ∷ 0 ∷ 2 ∷ []) "()" "()" (1 ∷ 2 ∷ 3 ∷ 4 ∷ 5 ∷ 6 ∷ []) ∷
+    stays (1 ∷ 2 ∷ 1 ∷ 4 ∷ []) "(())" "(())" (2 ∷ 3 ∷ 4 ∷ 5 ∷ 6 ∷ []) ∷
+    stays (3 ∷ 2 ∷ 6 ∷ 13 ∷ []) "((3),1,(1,2))" "((1,2),1,(3))" [] ∷
+    stays (1 ∷ 1 ∷ 1 ∷ 4 ∷ []) "(12)" "(12)" (2 ∷ 3 ∷ 4 ∷ 5 ∷ 6 ∷ []) ∷
+    stays (1 ∷ 1 ∷ 1 ∷ 13 ∷ []) "(37777777777)" "(37777777777)" (2 ∷ 3 ∷ 4 ∷ 5 ∷ 6 ∷ []) ∷
+    refusedRow 16 ∷
+    refusedRow 16 ∷
+    refusedRow 15 ∷
+    refusedRow 15 ∷
+    refusedRow 15 ∷
+    refusedRow 15 ∷
+    record { answer = DONE; figures = 2 ∷ 2 ∷ 3 ∷ 7 ∷ []; text = chars "((3),1)"; backwards = chars "(1,(3))"; results = 2 ∷ 3 ∷ []; after = chars "()"; free = 2 ∷ 1 ∷ 3 ∷ 4 ∷ [] } ∷
+    record { answer = DONE; figures = 0 ∷ 1 ∷ 0 ∷ 2 ∷ []; text = chars "()"; backwards = chars "()"; results = 3 ∷ 0 ∷ []; after = chars "(())"; free = [] } ∷
+    []
+
+pub edges : map row cases ≡ stated
+unfolding verdict scanned listIn len order extent reversed onto performed refusal effect read load fresh laid operations listFrom erase dropped total run step visit tally frees same pfl span
+edges = refl

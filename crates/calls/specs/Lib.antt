@@ -1,0 +1,6 @@
+pub mod Entry
+pub mod Run
+pub mod Read
+pub mod Write
+pub mod Chars
+pub mod Cases

@@ -1,0 +1,48 @@
+-- What reading a text into a holder gives, for all words and bytes: every refusal before anything is changed, the earliest text fault before NO ROOM.
+-- TEXT SIZE: not a multiple of a record, or too many bytes
+use mathlib.Core.Bool.{Bool, cond, not, _||_}
+use mathlib.Core.List.{List}
+use Prim.Native.Nat.{ℕ, _%_}
+use lib.Dec.{eqb, ltb}
+use lib.ListN.{length}
+use Rattle.answers.specs.Answers.{DONE, TABLE-SIZE, WORK-SPACE, UNSOUND, HOLDER, OCCUPIED, NO-ROOM, TEXT-SIZE, END}
+use Rattle.lists.specs.Lst.{extent}
+use Rattle.pool.specs.Operations.{read}
+use Rattle.pool.specs.Pool.{holder, frees}
+use Rattle.text.specs.Limits.{recordBytes, textMost}
+use Rattle.text.specs.Marks.{listIn}
+use Rattle.text.specs.Text.{verdict}
+use Rattle.calls.specs.Entry.{badTable, badWork, noHolder, shown, unsound, stored, used}
+
+abbrev pub badText : List ℕ → Bool
+badText xs = not (eqb (length xs % recordBytes) 0) || ltb textMost (length xs)
+
+-- the answer, the bytes taken, and the lent words afterwards
+pub record Read : Type 0 where
+  pub answer : ℕ
+  pub count : ℕ
+  pub table : List ℕ
+  pub work : List ℕ
+
+abbrev pub notRead : ℕ → List ℕ → List ℕ → Read
+notRead n ts ws = record { answer = n; count = 0; table = ts; work = ws }
+
+-- a text that is to go into holder h of a sound pool
+abbrev pub readInto : List ℕ → List ℕ → ℕ → List ℕ → Read
+readInto ts ws h xs =
+    let p = shown ts in
+    let v = verdict xs in
+    cond (not (eqb (holder p h) 0)) (notRead OCCUPIED ts (used ts ws))
+    (cond (not (eqb (v .no) DONE)) (notRead (v .no) ts (used ts ws))
+    (cond (ltb (frees (p .cells)) (extent (listIn xs))) (notRead NO-ROOM ts (used ts ws))
+    (record { answer = DONE; count = v .taken; table = stored ts (read p h (listIn xs)); work = used ts ws })))
+
+unfoldable pub readIn : List ℕ → List ℕ → ℕ → List ℕ → Read
+readIn ts ws h xs =
+    cond (badTable ts) (notRead TABLE-SIZE ts ws)
+    (cond (badWork ts ws) (notRead WORK-SPACE ts ws)
+    (cond (noHolder ts h) (notRead HOLDER ts ws)
+    (cond (badText xs) (notRead TEXT-SIZE ts ws)
+    (cond (eqb (length xs) 0) (notRead END ts ws)
+    (cond (unsound ts) (notRead UNSOUND ts (used ts ws))
+    (readInto ts ws h xs))))))

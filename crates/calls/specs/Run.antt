@@ -1,0 +1,51 @@
+-- What a script run gives, for all words: TABLE SIZE, WORK SPACE, SCRIPT, RESULTS and UNSOUND once and in this order, then operation by operation.
+use mathlib.Core.Bool.{Bool, cond, not, _||_}
+use mathlib.Core.List.{List, [], _∷_}
+use Prim.Native.Nat.{ℕ, _*_, _/_, _%_}
+use lib.Dec.{eqb, ltb}
+use lib.ListN.{length}
+use Rattle.answers.specs.Answers.{TABLE-SIZE, WORK-SPACE, SCRIPT, RESULTS, UNSOUND}
+use Rattle.pool.specs.Script.{Operation, Run, performed}
+use Rattle.calls.specs.Entry.{badTable, badWork, shown, unsound, stored, used, over}
+
+abbrev pub operationsMost : ℕ
+operationsMost = 4096
+
+-- a script: words in fours, the rest not looked at
+unfoldable pub operations : List ℕ → List Operation
+operations [] = []
+operations (c ∷ []) = []
+operations (c ∷ a ∷ []) = []
+operations (c ∷ a ∷ b ∷ []) = []
+operations (c ∷ a ∷ b ∷ v ∷ ss) = record { code = c; a = a; b = b; v = v } ∷ operations ss
+
+-- SCRIPT: not a multiple of four words, or too many operations
+abbrev pub badScript : List ℕ → Bool
+badScript ss = not (eqb (length ss % 4) 0) || ltb (4 * operationsMost) (length ss)
+
+-- RESULTS: fewer than two words for each operation
+abbrev pub badResults : List ℕ → List ℕ → Bool
+badResults ss rs = ltb (length rs) (2 * (length ss / 4))
+
+-- the answer, the operations done, and the lent words afterwards
+pub record Ran : Type 0 where
+  pub answer : ℕ
+  pub count : ℕ
+  pub table : List ℕ
+  pub work : List ℕ
+  pub results : List ℕ
+
+abbrev pub notRun : ℕ → List ℕ → List ℕ → List ℕ → Ran
+notRun n ts ws rs = record { answer = n; count = 0; table = ts; work = ws; results = rs }
+
+abbrev pub ranTo : Run → List ℕ → List ℕ → List ℕ → Ran
+ranTo r ts ws rs = record { answer = r .answer; count = r .done; table = stored ts (r .pool); work = used ts ws; results = over (r .results) rs }
+
+unfoldable pub ran : List ℕ → List ℕ → List ℕ → List ℕ → Ran
+ran ts ws ss rs =
+    cond (badTable ts) (notRun TABLE-SIZE ts ws rs)
+    (cond (badWork ts ws) (notRun WORK-SPACE ts ws rs)
+    (cond (badScript ss) (notRun SCRIPT ts ws rs)
+    (cond (badResults ss rs) (notRun RESULTS ts ws rs)
+    (cond (unsound ts) (notRun UNSOUND ts (used ts ws) rs)
+    (ranTo (performed (shown ts) (operations ss)) ts ws rs)))))

@@ -1,0 +1,40 @@
+-- `heads::prefix_atom` meets its contract.
+use native.Mathlib.Omega.{arith}
+use borrow.Author.Needs.{needs}
+use Rattle.cells.specs.Range.{spare, holder-high}
+use Rattle.heads.specs.HeadLaws.{is-pfa}
+use Rattle.table.specs.Fields.{putHolder}
+use Rattle.table.specs.View.{view}
+use Rattle.table.specs.ViewLaws.{after, said}
+use Rattle.heads.proofs.prefix_atom.Statement.{statement}
+use Rattle.heads.proofs.prefix_atom.Tie as tie
+
+holder-of-requires : tie.Need-holder-of-requires
+holder-of-requires c κs = search needs
+
+new-cell-requires : tie.Need-new-cell-requires
+new-cell-requires c κs =
+    let c0 = c .before .before .before .before in
+    let a = c0 .args in
+    (c0 .pre .0, (spare (a .s) (a .t .now) (c0 .pre .0) (c0 .pre .1 .1 .0) (c0 .pre .1 .1 .1), (omega arith, rw (c .before .holder-of .ensures .0) (holder-high (a .s) (a .t .now) (c0 .pre .0) (c0 .pre .1 .1 .0) (a .a)))))
+
+set-holder-requires : tie.Need-set-holder-requires
+set-holder-requires c κs =
+    let c0 = c .before .before .before .before .before .before .before .before in
+    let a = c0 .args in
+    (c .before .before .before .new-cell .ensures .1 .table, (c0 .pre .1 .0, rw (c .before .before .before .new-cell .ensures .0) (spare (a .s) (a .t .now) (c0 .pre .0) (c0 .pre .1 .1 .0) (c0 .pre .1 .1 .1) .cell .high)))
+
+same-length : tie.Need-same-length
+same-length c = search needs
+
+returns : tie.Need-returns
+returns c =
+    let a = c .before .before .before .before .before .before .before .before .before .before .before .args in
+    let k = c .before .before .before .before .before .before .new-cell in
+    said (after (putHolder (a .a) (k .result)) (k .ensures .1) (c .before .before .set-holder .ensures))
+    (is-pfa (view (a .s) (a .t .now)) (a .a) (a .v) (k .result) (c .before .before .before .before .before .before .before .before .holder-of .result) (c .before .before .before .before .before .before .before .before .holder-of .ensures .0) (k .ensures .0))
+
+pub prefix-atom-spec : {M : Type 1} → statement M
+prefix-atom-spec =
+    tie.close
+    (tie.spec holder-of-requires new-cell-requires set-holder-requires same-length returns)
