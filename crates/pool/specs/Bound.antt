@@ -9,8 +9,8 @@ use native.Mathlib.Omega.{arith}
 use lib.Dec.{eqb}
 use lib.ListN.{length, getD, set, length-set}
 use Rattle.pool.specs.Tally.{same, same-eq, same-ne, same-le, tally, tally-set, occ}
-use Rattle.pool.specs.Pool.{Cell, Pool, countOf, holder, gives, sends, Sound}
-use Rattle.pool.specs.Held.{Held, sends-live, sends-free}
+use Rattle.pool.specs.Pool.{Cell, Pool, countOf, holder, gives, sends, lives, Sound}
+use Rattle.pool.specs.Held.{into, Held, ifLive-pos, sends-live, sends-free}
 use Rattle.pool.specs.SoundLaws.{none-aside, sound-held}
 
 pub tally-le : {A : Type 0} (f : A → ℕ) (k : ℕ) (xs : List A) → ((x : A) → f x ≤ k) → tally f xs ≤ k * length xs
@@ -55,3 +55,13 @@ count-bound p s c = go (ℕ-discrete c 0)
 -- and is less by one at least where a holder is null
 pub count-less : (p : Pool) → Sound p → (b c : ℕ) → b < length (p .holders) → holder p b ≡ 0 → c ≢ 0 → countOf (p .cells) c < length (p .holders) + 2 * length (p .cells)
 count-less p s b c l e n = omega (arith, held-bound (p .free) (p .cells) (occ (p .holders)) none-aside (sound-held p s) c n, occ-less (p .holders) b c l e n)
+
+-- nor the arrows from cells twice the number of live ones
+pub into-lives : (cs : List Cell) (d : ℕ) → into cs d ≤ 2 * lives cs
+unfolding tally lives
+into-lives [] d = omega arith
+into-lives (x ∷ xs) d = go (into-lives xs d) (ℕ-discrete (x .count) 0)
+  where
+    go : into xs d ≤ 2 * lives xs → Dec (x .count ≡ 0) → into (x ∷ xs) d ≤ 2 * lives (x ∷ xs)
+    go r (yes e) = omega (arith, sends-free d x e)
+    go r (no n) = omega (arith, sends-le d x, ifLive-pos (x .count) 1 (omega arith))

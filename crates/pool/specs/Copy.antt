@@ -25,13 +25,13 @@ use Rattle.pool.specs.Room.{room}
 
 -- CINV
 
-copy-end : (k f : ℕ) (cs : List Cell) (x y : ℕ) → x ≡ 0 → copy k f cs x y ≡ record { free = f; cells = cs; head = y }
+pub copy-end : (k f : ℕ) (cs : List Cell) (x y : ℕ) → x ≡ 0 → copy k f cs x y ≡ record { free = f; cells = cs; head = y }
 unfolding copy
 copy-end zero f cs x y e = refl
 copy-end (suc k) f cs zero y e = refl
 copy-end (suc k) f cs (suc i) y e = absurd (omega arith)
 
-copy-next : (k f : ℕ) (cs : List Cell) (x y : ℕ) → x ≢ 0 → copy (suc k) f cs x y ≡ copy k (nextOf (share cs (item cs x)) f) (withTwin f cs x y) (nextOf cs x) f
+pub copy-next : (k f : ℕ) (cs : List Cell) (x y : ℕ) → x ≢ 0 → copy (suc k) f cs x y ≡ copy k (nextOf (share cs (item cs x)) f) (withTwin f cs x y) (nextOf cs x) f
 unfolding copy
 copy-next k f cs zero y n = absurd (n refl)
 copy-next k f cs (suc i) y n = refl
@@ -50,14 +50,14 @@ pub record Copied (cs : List Cell) (l m : Lst) (r : ℕ → ℕ) (z : Made) : Ty
   pub grown : Kept (z .cells) cs
 
 -- one cell of the copy
-record One (f : ℕ) (cs : List Cell) (x y : ℕ) (r : ℕ → ℕ) : Type 0 where
-  held : Held (nextOf (share cs (item cs x)) f) (withTwin f cs x y) (λ d. same f d + r d) none-aside
-  grown : Kept (withTwin f cs x y) cs
-  here : at (withTwin f cs x y) f ≡ twin cs x y
-  up : lives (withTwin f cs x y) ≡ suc (lives cs)
-  long : length (withTwin f cs x y) ≡ length cs
+pub record One (f : ℕ) (cs : List Cell) (x y : ℕ) (r : ℕ → ℕ) : Type 0 where
+  pub held : Held (nextOf (share cs (item cs x)) f) (withTwin f cs x y) (λ d. same f d + r d) none-aside
+  pub grown : Kept (withTwin f cs x y) cs
+  pub here : at (withTwin f cs x y) f ≡ twin cs x y
+  pub up : lives (withTwin f cs x y) ≡ suc (lives cs)
+  pub long : length (withTwin f cs x y) ≡ length cs
 
-one : (f : ℕ) (cs : List Cell) (x y : ℕ) (r : ℕ → ℕ) → Held f cs (λ d. same y d + r d) none-aside → Live cs x → lives cs < length cs → One f cs x y r
+pub one : (f : ℕ) (cs : List Cell) (x y : ℕ) (r : ℕ → ℕ) → Held f cs (λ d. same y d + r d) none-aside → Live cs x → lives cs < length cs → One f cs x y r
 one f cs x y r h l lt =
     let e = item cs x in
     let ok = null-or-item cs x (h .kinds x l) (λ k. elem-ok f cs (λ d. same y d + r d) none-aside x h l k) in

@@ -29,7 +29,7 @@ Last cs c nil z = ⊥
 Last cs c (atom v l) z = ((nextOf cs c ≡ 0) × (c ≡ z)) ⊎ ((nextOf cs c ≢ 0) × Last cs (nextOf cs c) l z)
 Last cs c (list e l) z = ((nextOf cs c ≡ 0) × (c ≡ z)) ⊎ ((nextOf cs c ≢ 0) × Last cs (nextOf cs c) l z)
 
-Last-live : (cs : List Cell) (l : Lst) (c z : ℕ) → ListAt cs c l → Last cs c l z → Live cs z
+pub Last-live : (cs : List Cell) (l : Lst) (c z : ℕ) → ListAt cs c l → Last cs c l z → Live cs z
 unfolding ListAt Last
 Last-live cs nil c z h k = absurd k
 Last-live cs (atom v l) c z h (inl (e, q)) = subst (Live cs) q (h .0)
@@ -251,12 +251,12 @@ joins f y m (list g′ l) cs x z r a h lx o (inr (n, k)) ly =
     more₂ c (inl e) = inl e
     more₂ c (inr p) = inr (omega arith)
 
-lastOf-end : (k : ℕ) (cs : List Cell) (x : ℕ) → nextOf cs x ≡ 0 → lastOf k cs x ≡ x
+pub lastOf-end : (k : ℕ) (cs : List Cell) (x : ℕ) → nextOf cs x ≡ 0 → lastOf k cs x ≡ x
 unfolding lastOf
 lastOf-end zero cs x e = refl
 lastOf-end (suc k) cs x e = rw (e, lastOf)
 
-lastOf-next : (k : ℕ) (cs : List Cell) (x : ℕ) → nextOf cs x ≢ 0 → lastOf (suc k) cs x ≡ lastOf k cs (nextOf cs x)
+pub lastOf-next : (k : ℕ) (cs : List Cell) (x : ℕ) → nextOf cs x ≢ 0 → lastOf (suc k) cs x ≡ lastOf k cs (nextOf cs x)
 unfolding lastOf
 lastOf-next k cs x n = go (nextOf cs x) refl
   where
@@ -270,7 +270,7 @@ no-cells cs c nil s h = h
 no-cells cs c (atom v l) s h = absurd (omega arith)
 no-cells cs c (list e l) s h = absurd (omega arith)
 
-last-is : (l : Lst) (k : ℕ) (cs : List Cell) (x : ℕ) → ListAt cs x l → x ≢ 0 → len l ≤ suc k → Last cs x l (lastOf k cs x)
+pub last-is : (l : Lst) (k : ℕ) (cs : List Cell) (x : ℕ) → ListAt cs x l → x ≢ 0 → len l ≤ suc k → Last cs x l (lastOf k cs x)
 unfolding Last ListAt len
 last-is nil k cs x h n s = absurd (n h)
 last-is (atom v l) zero cs x h n s =

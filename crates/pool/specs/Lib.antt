@@ -30,3 +30,4 @@ pub mod Chains
 pub mod CheckInv
 pub mod CheckLaws
 pub mod Bound
+pub mod Level

@@ -1,0 +1,48 @@
+-- `levels::copy::twin` meets its contract.
+use native.Mathlib.Omega.{arith}
+use borrow.Author.Needs.{needs}
+use Rattle.table.specs.Fields.{cell, putCell}
+use Rattle.table.specs.View.{view}
+use Rattle.table.specs.ViewLaws.{after, said}
+use Rattle.levels.specs.CopyingLaws.{is-twin}
+use Rattle.levels.proofs.copy.twin.Statement.{statement}
+use Rattle.levels.proofs.copy.twin.Tie as tie
+
+kind-of-requires : tie.Need-kind-of-requires
+kind-of-requires c κs = search needs
+
+elem-of-requires : tie.Need-elem-of-requires
+elem-of-requires c κs = search needs
+
+item-of-requires : tie.Need-item-of-requires
+item-of-requires c κs = search needs
+
+share-requires : tie.Need-share-requires
+share-requires c κs =
+    let c0 = c .before .before .before .before .before .before .before .before in
+    let k = c0 .pre .1 in
+    (c0 .pre .0, rw (c .before .item-of .ensures) (omega (arith, k .elem, c0 .pre .0 .measured), λ n. omega (arith, k .more n, c0 .pre .0 .measured)))
+
+set-cell-requires : tie.Need-set-cell-requires
+set-cell-requires c κs = search needs
+
+same-length : tie.Need-same-length
+same-length c = search needs
+
+returns : tie.Need-returns
+returns c =
+    let a = c .before .before .before .before .before .before .before .before .before .before .before .before .before .before .before .args in
+    said (after (putCell (a .f) (cell (c .before .before .before .before .before .before .before .before .before .before .before .before .kind-of .result) (c .before .before .before .before .before .before .before .before .before .before .elem-of .result) 1 (a .y))) (c .before .before .before .before .before .before .share .ensures) (c .before .before .set-cell .ensures))
+    (is-twin (view (a .s) (a .t .now)) (a .f) (a .x) (a .y) (c .before .before .before .before .before .before .before .before .before .before .before .before .kind-of .ensures) (c .before .before .before .before .before .before .before .before .before .before .elem-of .ensures) (c .before .before .before .before .before .before .before .before .item-of .ensures))
+
+pub twin-spec : {M : Type 1} → statement M
+twin-spec =
+    tie.close
+    (tie.spec
+    kind-of-requires
+    elem-of-requires
+    item-of-requires
+    share-requires
+    set-cell-requires
+    same-length
+    returns)
