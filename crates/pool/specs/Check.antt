@@ -1,13 +1,14 @@
 -- The test for soundness: every arrow met takes one off the count of its end, and the arrows of a cell are met when its count
--- has run out; so all counts run out exactly if they are right and nothing reaches itself. With it the free chain and the types.
+-- has run out; so all counts run out exactly if they are right and nothing reaches itself. The type is looked at when a cell's
+-- arrows are met, and so in every live cell if all goes well. With it the free chain.
 use mathlib.Core.Bool.{Bool, true, false, cond, _&&_}
 use mathlib.Core.List.{List, [], _∷_}
 use Prim.Native.Nat.{ℕ, zero, suc, _+_}
 use lib.Dec.{eqb, leb}
 use lib.ListN.{length, getD}
-use Rattle.pool.specs.Pool.{Cell, Pool, at, countOf, nextOf, setCount, mark, frees}
+use Rattle.pool.specs.Pool.{Cell, Pool, at, kindOf, countOf, nextOf, setCount, mark, frees}
 
--- cells have the counts that are left; ok: no arrow was dropped that its end did not count; gone: cells taken off the stack
+-- cells have the counts that are left; ok: no arrow was met that its end did not count, and no type over 1; gone: cells taken off the stack
 pub record Peeling : Type 0 where
   pub ok : Bool
   pub cells : List Cell
@@ -28,13 +29,13 @@ meet (suc i) st = lowered st (suc i) (countOf (st .cells) (suc i))
 unfoldable pub arrow : Cell → ℕ
 arrow x = cond (eqb (x .kind) 1) (x .elem) 0
 
--- the cell on top taken off, and its arrows dropped
-abbrev pub taken : Peeling → List ℕ → Peeling
-taken st xs = record { ok = st .ok; cells = st .cells; stack = xs; gone = suc (st .gone) }
+-- the cell on top taken off and its type looked at; then its arrows are met
+abbrev pub taken : List Cell → Peeling → ℕ → List ℕ → Peeling
+taken cs st c xs = record { ok = leb (kindOf cs c) 1 && st .ok; cells = st .cells; stack = xs; gone = suc (st .gone) }
 
 unfoldable pub pop : List Cell → List ℕ → Peeling → Peeling
 pop cs [] st = st
-pop cs (c ∷ xs) st = meet (nextOf cs c) (meet (arrow (at cs c)) (taken st xs))
+pop cs (c ∷ xs) st = meet (nextOf cs c) (meet (arrow (at cs c)) (taken cs st c xs))
 
 unfoldable pub popped : List Cell → Peeling → Peeling
 popped cs st = pop cs (st .stack) st
@@ -59,20 +60,9 @@ unfoldable pub chained : ℕ → List Cell → ℕ → Bool
 chained zero cs c = eqb c 0
 chained (suc n) cs c = let r = chained n cs (nextOf cs c) in leb 1 (mark cs c) && r
 
--- types: a live cell's is 0 or 1
-unfoldable pub kinded : Cell → Bool
-kinded x = cond (eqb (x .count) 0) true (leb (x .kind) 1)
-
-unfoldable pub allKinded : ℕ → List Cell → Bool
-allKinded zero cs = true
-allKinded (suc k) cs = kinded (at cs (suc k)) && allKinded k cs
-
 -- the check
 unfoldable pub peeled? : List Cell → Peeling → Bool
 peeled? cs st = st .ok && eqb (st .gone + frees cs) (length cs)
 
 unfoldable pub check : Pool → Bool
-check p =
-    chained (frees (p .cells)) (p .cells) (p .free)
-    && (allKinded (length (p .cells)) (p .cells)
-    && peeled? (p .cells) (turns (length (p .cells)) (p .cells) (afterHolders p)))
+check p = chained (frees (p .cells)) (p .cells) (p .free) && peeled? (p .cells) (turns (length (p .cells)) (p .cells) (afterHolders p))

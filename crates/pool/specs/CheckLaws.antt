@@ -1,30 +1,21 @@
 -- The test decides soundness, and the cells that wait in it are never more than there are.
 use mathlib.Core.Path.{_≡_, refl, sym, ap, _∙_, subst}
 use mathlib.Core.Logic.{_≢_, _⊎_, inl, inr, _↔_}
-use mathlib.Core.Bool.{Bool, true, false, cond, _&&_, false≢true}
+use mathlib.Core.Bool.{Bool, true, _&&_}
 use mathlib.Core.List.{List, [], _∷_}
 use Prim.Native.Nat.{ℕ, zero, suc, _+_, _≤_, _<_}
-use native.Mathlib.Decide.{ℕ-discrete}
 use native.Mathlib.Omega.{arith}
 use lib.Dec.{eqb, leb}
 use lib.ListN.{length}
-use borrow.Author.Tests.{eqb-true, eq-eqb, ne-eqb, leb-true, le-leb}
+use borrow.Author.Tests.{eqb-true, eq-eqb, leb-true, le-leb}
 use Rattle.pool.specs.Tally.{same, same-of, Same, eq, ne, same?, tally, occ}
-use Rattle.pool.specs.Pool.{Cell, Pool, at, kindOf, countOf, nextOf, Live, Chain, mark, frees, Sound}
-use Rattle.pool.specs.Check.{Peeling, lowered, meet, arrow, taken, pop, popped, turns, named, unmet, afterHolders, chained, kinded, allKinded, peeled?, check}
-use Rattle.pool.specs.Edit.{live-cell, mark-past}
+use Rattle.pool.specs.Pool.{Cell, Pool, at, countOf, nextOf, Chain, mark, frees, Sound}
+use Rattle.pool.specs.Check.{Peeling, lowered, meet, arrow, taken, pop, popped, turns, named, unmet, afterHolders, chained, peeled?, check}
+use Rattle.pool.specs.Edit.{mark-past}
 use Rattle.pool.specs.SoundLaws.{sound-held, held-sound}
 use Rattle.pool.specs.Room.{lives-le, frees-lives}
 use Rattle.pool.specs.Chains.{chain-full, sound-chain-length}
-use Rattle.pool.specs.CheckInv.{PeelInv, turns-inv, named-inv, holders-inv, passed, passes}
-
-pub and-both : (a b : Bool) → (a && b) ≡ true → (a ≡ true) × (b ≡ true)
-and-both true b h = (refl, h)
-and-both false b h = absurd (false≢true h)
-
-pub and-of : (a b : Bool) → a ≡ true → b ≡ true → (a && b) ≡ true
-and-of true b h k = k
-and-of false b h k = absurd (false≢true h)
+use Rattle.pool.specs.CheckInv.{and-both, and-of, PeelInv, turns-inv, named-inv, holders-inv, passed, passes}
 
 -- the free chain
 
@@ -49,34 +40,6 @@ chain-chained (g ∷ fs) cs c h f =
     and-of (leb 1 (mark cs c)) (chained (length fs) cs (nextOf cs c)) (le-leb 1 (mark cs c) (f c (omega (arith, same-of g c (sym (h .0))))))
     (chain-chained fs cs (nextOf cs c) (subst (λ u. Chain cs (nextOf cs u) fs) (sym (h .0)) (h .2)) (λ d o. f d (omega arith)))
 
--- the types
-
-kinded-fact : (x : Cell) → kinded x ≡ true → 0 < x .count → x .kind ≤ 1
-unfolding kinded
-kinded-fact x h l = leb-true (x .kind) 1 (rw (ne-eqb (x .count) 0 (omega arith)) at h)
-
-fact-kinded : (x : Cell) → (0 < x .count → x .kind ≤ 1) → kinded x ≡ true
-unfolding kinded
-fact-kinded x f = go (ℕ-discrete (x .count) 0)
-  where
-    go : Dec (x .count ≡ 0) → cond (eqb (x .count) 0) true (leb (x .kind) 1) ≡ true
-    go (yes e) = rw (eq-eqb (x .count) 0 e)
-    go (no n) = rw (ne-eqb (x .count) 0 n) (le-leb (x .kind) 1 (f (omega arith)))
-
-all-kinds : (k : ℕ) (cs : List Cell) → allKinded k cs ≡ true → (c : ℕ) → c ≤ k → Live cs c → kindOf cs c ≤ 1
-unfolding allKinded
-all-kinds zero cs h c m l = absurd (omega (arith, live-cell cs c l .0))
-all-kinds (suc k) cs h c m l = go (ℕ-discrete c (suc k)) (λ n. all-kinds k cs (and-both (kinded (at cs (suc k))) (allKinded k cs) h .1) c n l)
-  where
-    go : Dec (c ≡ suc k) → (c ≤ k → kindOf cs c ≤ 1) → kindOf cs c ≤ 1
-    go (yes e) r = rw e (kinded-fact (at cs (suc k)) (and-both (kinded (at cs (suc k))) (allKinded k cs) h .0) (rw e at l))
-    go (no n) r = r (omega arith)
-
-kinds-all : (k : ℕ) (cs : List Cell) → ((c : ℕ) → Live cs c → kindOf cs c ≤ 1) → allKinded k cs ≡ true
-unfolding allKinded
-kinds-all zero cs f = refl
-kinds-all (suc k) cs f = and-of (kinded (at cs (suc k))) (allKinded k cs) (fact-kinded (at cs (suc k)) (f (suc k))) (kinds-all k cs f)
-
 -- a stack that is empty stays so, and after as many turns as there are cells it is
 
 pub meet-gone : (x : ℕ) (st : Peeling) → (meet x st) .gone ≡ st .gone
@@ -91,7 +54,7 @@ meet-gone (suc i) st = go (countOf (st .cells) (suc i))
 
 pub pop-gone : (cs : List Cell) (c : ℕ) (xs : List ℕ) (st : Peeling) → (pop cs (c ∷ xs) st) .gone ≡ suc (st .gone)
 unfolding pop
-pop-gone cs c xs st = meet-gone (nextOf cs c) (meet (arrow (at cs c)) (taken st xs)) ∙ meet-gone (arrow (at cs c)) (taken st xs)
+pop-gone cs c xs st = meet-gone (nextOf cs c) (meet (arrow (at cs c)) (taken cs st c xs)) ∙ meet-gone (arrow (at cs c)) (taken cs st c xs)
 
 -- as many cells as turns have gone, or the stack is empty
 emptied : (k : ℕ) (cs : List Cell) (st₀ : Peeling) → ((turns k cs st₀) .stack ≡ []) ⊎ (k ≤ (turns k cs st₀) .gone)
@@ -124,23 +87,22 @@ ends p = go (emptied (length (p .cells)) (p .cells) (afterHolders p))
 -- the check, with any number of turns after which the stack is empty
 
 abbrev pub tested : ℕ → Pool → Bool
-tested k p = chained (frees (p .cells)) (p .cells) (p .free) && (allKinded (length (p .cells)) (p .cells) && peeled? (p .cells) (turns k (p .cells) (afterHolders p)))
+tested k p = chained (frees (p .cells)) (p .cells) (p .free) && peeled? (p .cells) (turns k (p .cells) (afterHolders p))
 
 pub tested-sound : (k : ℕ) (p : Pool) → (turns k (p .cells) (afterHolders p)) .stack ≡ [] → tested k p ≡ true → Sound p
 unfolding peeled?
 tested-sound k p e h =
     let cs : List Cell = p .cells in
     let st : Peeling = turns k cs (afterHolders p) in
-    let (h1, h2) = and-both (chained (frees cs) cs (p .free)) (allKinded (length cs) cs && peeled? cs st) h in
-    let (h3, h4) = and-both (allKinded (length cs) cs) (peeled? cs st) h2 in
-    let (h5, h6) = and-both (st .ok) (eqb (st .gone + frees cs) (length cs)) h4 in
-    let n : st .gone + frees cs ≡ length cs = eqb-true (st .gone + frees cs) (length cs) h6 in
+    let (h1, h2) = and-both (chained (frees cs) cs (p .free)) (peeled? cs st) h in
+    let (h3, h4) = and-both (st .ok) (eqb (st .gone + frees cs) (length cs)) h2 in
+    let n : st .gone + frees cs ≡ length cs = eqb-true (st .gone + frees cs) (length cs) h4 in
     let i = turns-inv k cs (occ (p .holders)) (λ d. 0) (afterHolders p) (holders-inv p) in
-    let (law, a) = passed cs (occ (p .holders)) st i e h5 (omega (arith, frees-lives cs)) in
+    let (law, t, a) = passed cs (occ (p .holders)) st i e h3 (omega (arith, frees-lives cs)) in
     let (fs, c, f, l) = chained-chain (frees cs) cs (p .free) h1 in
     held-sound p (record {
       law = law;
-      kinds = λ c v. all-kinds (length cs) cs h3 c (live-cell cs c v .1) v;
+      kinds = t;
       chain = (fs, c, λ d. omega (arith, chain-full cs (p .free) fs c f (omega (arith, frees-lives cs)) d));
       acyclic = a;
     })
@@ -153,11 +115,10 @@ sound-tested k p e s =
     let h = sound-held p s in
     let fs : List ℕ = s .chain .0 in
     let i = turns-inv k cs (occ (p .holders)) (λ d. 0) (afterHolders p) (holders-inv p) in
-    let (o, g) = passes cs (occ (p .holders)) st i e (h .law) (h .acyclic) in
+    let (o, g) = passes cs (occ (p .holders)) st i e (h .law) (h .kinds) (h .acyclic) in
     let q : length fs ≡ frees cs = omega (arith, frees-lives cs, sound-chain-length p s) in
-    and-of (chained (frees cs) cs (p .free)) (allKinded (length cs) cs && peeled? cs st) (subst (λ n. chained n cs (p .free) ≡ true) q (chain-chained fs cs (p .free) (s .chain .1) (λ d o. omega (arith, s .chain .2 d))))
-    (and-of (allKinded (length cs) cs) (peeled? cs st) (kinds-all (length cs) cs (h .kinds))
-    (and-of (st .ok) (eqb (st .gone + frees cs) (length cs)) o (eq-eqb (st .gone + frees cs) (length cs) (omega (arith, frees-lives cs)))))
+    and-of (chained (frees cs) cs (p .free)) (peeled? cs st) (subst (λ n. chained n cs (p .free) ≡ true) q (chain-chained fs cs (p .free) (s .chain .1) (λ d o. omega (arith, s .chain .2 d))))
+    (and-of (st .ok) (eqb (st .gone + frees cs) (length cs)) o (eq-eqb (st .gone + frees cs) (length cs) (omega (arith, frees-lives cs))))
 
 pub check-decides : (p : Pool) → (check p ≡ true) ↔ Sound p
 unfolding check
