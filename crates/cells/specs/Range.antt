@@ -6,7 +6,7 @@ use Prim.Native.Nat.{ℕ, _+_, _*_, _≤_, _<_}
 use native.Mathlib.Omega.{arith}
 use lib.ListN.{length}
 use Rattle.table.specs.declared.Shape.{Shape}
-use Rattle.pool.specs.Advance.{null-or-item}
+use Rattle.pool.specs.Advance.{null-or-item, holder-live}
 use Rattle.pool.specs.Bound.{count-bound, count-less}
 use Rattle.pool.specs.Edit.{live-cell, mark-past}
 use Rattle.pool.specs.Held.{Held}
@@ -93,8 +93,4 @@ module _ (s : Shape) (ws : List ℕ) (t : Table s ws) (o : Sound (view s ws)) wh
       }
 
   pub holder-head : (h : ℕ) → holder (view s ws) h ≢ 0 → Head s (view s ws .cells) (holder (view s ws) h)
-  holder-head h n = live-head (holder (view s ws) h) (live-of (o .holds h))
-    where
-      live-of : NullOrLive (view s ws .cells) (holder (view s ws) h) → Live (view s ws .cells) (holder (view s ws) h)
-      live-of (inl e) = absurd (n e)
-      live-of (inr l) = l
+  holder-head h n = live-head (holder (view s ws) h) (holder-live (view s ws) h o n)

@@ -38,9 +38,13 @@ pub grown-null : (cs ds : List Cell) (c : ℕ) → Kept ds cs → NullOrLive cs 
 grown-null cs ds c k (inl e) = inl e
 grown-null cs ds c k (inr l) = inr (k c l .0)
 
-pub adv-does : (p : Pool) (a b : ℕ) → Sound p → a < length (p .holders) → b < length (p .holders) → a ≢ b → holder p b ≡ 0 → holder p a ≢ 0 → Adv p a b (adv p a b)
-unfolding adv ListAt
-adv-does p a b s la lb ab nb na =
+-- element and tail are borrowed for b and a: the old list is one root more
+pub lends : (p : Pool) (a b : ℕ) → Sound p → (la : a < length (p .holders)) (lb : b < length (p .holders)) (ab : a ≢ b) → holder p b ≡ 0 → Live (p .cells) (holder p a)
+    → let x = holder p a in
+    let e = item (p .cells) x in
+    let nx = nextOf (p .cells) x in
+    Shared (p .free) (p .cells) e (λ d. occ (p .holders) d + same e d) × Shared (p .free) (share (p .cells) e) nx (λ d. same x d + occ (both (p .holders) a b nx e la lb ab) d)
+lends p a b s la lb ab nb lx =
     let f = p .free in
     let cs = p .cells in
     let hs = p .holders in
@@ -48,15 +52,35 @@ adv-does p a b s la lb ab nb na =
     let h = sound-held p s in
     let nx = nextOf cs x in
     let e = item cs x in
-    let lx : Live cs x = live-of (s .holds a) in
-    let hs′ : List ℕ = both hs a b nx e la lb ab in
     let r₁ : ℕ → ℕ = λ d. occ hs d + same e d in
     let cs₁ : List Cell = share cs e in
-    let w₁ : Shared f cs e r₁ = shared f cs (occ hs) r₁ e h (null-or-item cs x (h .kinds x lx) (λ k. s .elems x lx k)) (λ d n. refl) in
-    let r₂ : ℕ → ℕ = λ d. same x d + occ hs′ d in
+    let w₁ : Shared f cs e r₁ = shared f cs (occ hs) r₁ e h (null-or-item cs x (h .kinds x lx) (λ k. s .elems x lx k)) (λ d n. refl) in (
+      w₁,
+      shared f cs₁ r₁ (λ d. same x d + occ (both hs a b nx e la lb ab) d) nx (w₁ .held) (grown-null cs cs₁ nx (w₁ .grown) (s .nexts x lx))
+          (λ d n. omega (arith, occ-both hs a b nx e la lb ab d, ap (λ u. same u d) nb, same-ne 0 d (λ q. n (sym q)))),
+    )
+
+-- a holder that is not null names a live cell
+pub holder-live : (p : Pool) (a : ℕ) → Sound p → holder p a ≢ 0 → Live (p .cells) (holder p a)
+holder-live p a s n = go (s .holds a)
+  where
+    go : NullOrLive (p .cells) (holder p a) → Live (p .cells) (holder p a)
+    go (inl q) = absurd (n q)
+    go (inr l) = l
+
+pub adv-does : (p : Pool) (a b : ℕ) → Sound p → a < length (p .holders) → b < length (p .holders) → a ≢ b → holder p b ≡ 0 → holder p a ≢ 0 → Adv p a b (adv p a b)
+unfolding adv ListAt
+adv-does p a b s la lb ab nb na =
+    let f = p .free in
+    let cs = p .cells in
+    let hs = p .holders in
+    let x = holder p a in
+    let nx = nextOf cs x in
+    let e = item cs x in
+    let hs′ : List ℕ = both hs a b nx e la lb ab in
+    let cs₁ : List Cell = share cs e in
     let cs₂ : List Cell = share cs₁ nx in
-    let w₂ : Shared f cs₁ nx r₂ = shared f cs₁ r₁ r₂ nx (w₁ .held) (grown-null cs cs₁ nx (w₁ .grown) (s .nexts x lx))
-    (λ d n. omega (arith, occ-both hs a b nx e la lb ab d, ap (λ u. same u d) nb, same-ne 0 d (λ q. n (sym q)))) in
+    let (w₁, w₂) = lends p a b s la lb ab nb (holder-live p a s na) in
     let z : Dropping = dropped f cs₂ x in
     let w : Dropped (occ hs′) cs₂ z = drops (occ hs′) f cs₂ x (w₂ .held) in
     let t : Sound (adv p a b) = held-sound (adv p a b) (w .held) in
@@ -71,7 +95,3 @@ adv-does p a b s la lb ab nb na =
       lists = λ g l k. (stay l a (subst (λ u. ListAt cs u l) (sym ea) (k .3)), stay g b (subst (λ u. ListAt cs u g) (sym (eb ∙ item-list (kindOf cs x) (elemOf cs x) (k .1))) (k .2)));
       others = λ i l n k. stay l i (subst (λ u. ListAt cs u l) (sym (both-other hs a b nx e la lb ab i (n .0) (n .1))) k);
     }
-  where
-    live-of : NullOrLive (p .cells) (holder p a) → Live (p .cells) (holder p a)
-    live-of (inl q) = absurd (na q)
-    live-of (inr l) = l

@@ -11,14 +11,17 @@ pub mod Reach
 pub mod Frame
 pub mod Number
 pub mod Drop
+pub mod Visit
 pub mod SoundLaws
 pub mod EraseLaws
 pub mod Holders
 pub mod Steps
+pub mod ShareLaws
 pub mod Prefix
 pub mod Borrow
 pub mod Decap
 pub mod Advance
+pub mod AdvanceWays
 pub mod Inverse
 pub mod Room
 pub mod Copy

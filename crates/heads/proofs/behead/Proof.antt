@@ -4,7 +4,7 @@ use native.Mathlib.Omega.{arith}
 use borrow.Author.Needs.{needs}
 use Rattle.cells.specs.Range.{Head, live-head, ranged}
 use Rattle.heads.specs.HeadLaws.{is-decap}
-use Rattle.table.specs.Fields.{cell, putNext, putFree, putHolder}
+use Rattle.table.specs.Fields.{putNext, putFree, putHolder}
 use Rattle.table.specs.View.{view}
 use Rattle.table.specs.ViewLaws.{after, said}
 use Rattle.pool.specs.Pool.{Pool}

@@ -3,7 +3,6 @@ use mathlib.Core.Path.{ap, sym, _∙_, _≡_, refl}
 use borrow.Author.Tests.{eq-eqb, ne-eqb}
 use borrow.Author.Needs.{needs}
 use Rattle.cells.specs.Range.{Head, holder-head}
-use Rattle.table.specs.Fields.{cell}
 use Rattle.table.specs.View.{view}
 use Rattle.pool.specs.Pool.{kindOf, elemOf}
 use Rattle.heads.proofs.first.Statement.{statement}

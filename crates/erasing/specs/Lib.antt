@@ -1,0 +1,6 @@
+pub mod Erasing
+pub mod StepLaws
+pub mod LaterLaws
+pub mod Counts
+pub mod Ends
+pub mod AdvanceLaws
