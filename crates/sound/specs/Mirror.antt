@@ -6,8 +6,8 @@ use Prim.Native.Nat.{ℕ, zero, suc, _+_, _≤_, _<_}
 use lib.Dec.{eqb}
 use lib.ListN.{length, getD, drop}
 use Rattle.pool.specs.Tally.{occ}
-use Rattle.pool.specs.Pool.{Cell, Pool, countOf, frees}
-use Rattle.pool.specs.Check.{Peeling, meet, turns, afterHolders}
+use Rattle.pool.specs.Pool.{Cell, Pool, at, countOf, frees}
+use Rattle.pool.specs.Check.{Peeling, meet, arrow, taken, turns, afterHolders}
 use Rattle.sound.specs.declared.Peel.{Peel}
 
 -- the k words from n, the last on top
@@ -85,6 +85,15 @@ pub record Taking (p : Pool) (n : ℕ) (ws : List ℕ) (e : Peel) : Type 0 where
   pub long : n + n ≤ length ws
   pub shows : Mirrors n ws e (stateAt p (e .gone))
   pub some : e .at ≢ 0
+
+-- that cell taken off the stack, and its element met
+abbrev pub elementMet : Pool → ℕ → List ℕ → Peel → Peeling
+elementMet p n ws e = meet (arrow (at (p .cells) (e .at))) (taken (p .cells) (stateAt p (e .gone)) (e .at) (below n ws (e .top)))
+
+pub record ElementMet (p : Pool) (n : ℕ) (ws : List ℕ) (e : Peel) (us : List ℕ) (r : Peel) : Type 0 where
+  pub within : Within n ws us
+  pub none : r .at ≡ 0
+  pub shows : Mirrors n us r (elementMet p n ws e)
 
 pub record Peeled (n : ℕ) (p : Pool) (ws us : List ℕ) (e : Peel) : Type 0 where
   pub shown : Shown n ws us e (stateAt p (e .gone))

@@ -3,14 +3,12 @@
 ghost use mathlib.Core.Path.{_≡_};
 ghost use mathlib.Core.Bool.{_&&_};
 ghost use Prim.Native.Nat.{suc, _+_, _*_, _≤_};
-ghost use lib.Dec.{eqb, leb};
 ghost use lib.ListN.{length};
 ghost use Rattle.pool.specs.Tally.{same};
-ghost use Rattle.pool.specs.Pool.{at};
-ghost use Rattle.pool.specs.Check.{arrow, chained, afterHolders};
-ghost use Rattle.table.specs.View.{view, Table, IsCell};
+ghost use Rattle.pool.specs.Check.{chained, afterHolders};
+ghost use Rattle.table.specs.View.{view, Table};
 ghost use Rattle.sound.specs.Decided.{Decided};
-ghost use Rattle.sound.specs.Mirror.{Room, Follows, Stows, Refills, Counted, Copied, stateAt, Shown, Reached, Taking, Peeled};
+ghost use Rattle.sound.specs.Mirror.{Room, Follows, Stows, Refills, Counted, Copied, stateAt, Shown, Reached, Taking, ElementMet, Peeled};
 use table::Shape;
 
 // What the work space does not say: whether all went well (1, else 0), the cell at hand (0: none), how many wait, and how many are
@@ -185,26 +183,41 @@ fn meet_holders(s: Shape, t: &[u32], w: &mut [u32]) -> Peel
     e
 }
 
-// The list that the cell's element is, 0 where it is an atom.
-fn arrow_of(s: Shape, t: &[u32], c: usize) -> usize
+// Takes the cell at hand: looks at its type and meets its element, which then waits if it has run out.
+fn meet_element(s: Shape, t: &[u32], w: &mut [u32], e: Peel) -> Peel
     requires { ⌜ Table s (now t) ⌝ }
-    requires { ⌜ IsCell s c ⌝ }
-    ensures { λ r. ⌜ r ≡ arrow (at (view s (now (t .entry)) .cells) c) ⌝ }
+    requires { ⌜ Taking (view s (now t)) (s .cells) (now w) e ⌝ }
+    ensures { λ r. ⌜ ElementMet (view s (now (t .entry))) (s .cells) (now (w .entry)) e (now (w .exit)) r ⌝ }
 {
-    if table::kind_of(s, t, c) == 1 {
-        return table::elem_of(s, t, c) as usize;
+    let n = s.cells;
+    let c = e.at;
+    let gone = e.gone + 1;
+    let k = table::kind_of(s, t, c);
+    if k == 0 {
+        return Peel {
+            ok: e.ok,
+            at: 0,
+            top: e.top,
+            gone: gone,
+        };
     }
-    0
-}
-
-// ok, but 0 where the type is over 1.
-fn if_typed(k: u32, ok: usize) -> usize
-    ensures { λ r. ⌜ eqb r 1 ≡ (leb k 1 && eqb ok 1) ⌝ }
-{
     if k > 1 {
-        return 0;
+        return Peel {
+            ok: 0,
+            at: 0,
+            top: e.top,
+            gone: gone,
+        };
     }
-    ok
+    let y = table::elem_of(s, t, c) as usize;
+    let d = Peel {
+        ok: e.ok,
+        at: 0,
+        top: e.top,
+        gone: gone,
+    };
+    let f = follow(n, w, y, d);
+    stow(n, w, f)
 }
 
 // Meets the arrows of the cell at hand. A successor that has run out is followed at once.
@@ -215,22 +228,13 @@ fn take_cell(s: Shape, t: &[u32], w: &mut [u32], e: Peel) -> Peel
 {
     let n = s.cells;
     let c = e.at;
-    let k = table::kind_of(s, t, c);
-    let y = arrow_of(s, t, c);
     let x = table::next_of(s, t, c);
-    let ok = if_typed(k, e.ok);
-    let d = Peel {
-        ok: ok,
-        at: 0,
-        top: e.top,
-        gone: e.gone + 1,
-    };
-    let f = follow(n, w, y, d);
-    let g = stow(n, w, f);
+    let g = meet_element(s, t, w, e);
     let h = follow(n, w, x, g);
     refill(n, w, h)
 }
 
+// Meets the arrows of the holders, and then of every cell that runs out.
 fn peel_all(s: Shape, t: &[u32], w: &mut [u32]) -> Peel
     requires { ⌜ Table s (now t) ⌝ }
     requires { ⌜ s .cells + s .cells ≤ length (now w) ⌝ }
