@@ -18,7 +18,6 @@ use Rattle.pool.specs.Edit.{live-cell}
 use Rattle.pool.specs.Reach.{len-le}
 use Rattle.pool.specs.SoundLaws.{none-aside, sound-held, denoted}
 use Rattle.pool.specs.Inverse.{Alone}
-use Rattle.pool.specs.Copy.{one}
 use Rattle.pool.specs.Join.{lastOf-end, lastOf-next}
 
 -- from c on there are n live cells, and then null
@@ -139,7 +138,7 @@ length-is p h l s w =
 
 -- no count over 1: each is 1
 
-both-false : (a b : Bool) → (a || b) ≡ false → (a ≡ false) × (b ≡ false)
+pub both-false : (a b : Bool) → (a || b) ≡ false → (a ≡ false) × (b ≡ false)
 both-false true b e = absurd (true≢false e)
 both-false false b e = (refl, e)
 

@@ -34,3 +34,6 @@ pub mod CheckInv
 pub mod CheckLaws
 pub mod Bound
 pub mod Level
+pub mod ByCode
+pub mod Lengths
+pub mod ScriptLaws

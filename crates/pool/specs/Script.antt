@@ -133,6 +133,10 @@ effect p o =
     (cond (eqb (o .code) FIRST) (tellsFirst p (o .a) p)
     (tellsNumber (lengthOf p (o .a)) p))))))))))
 
+-- the pool after an operation: as it was where the operation is refused
+unfoldable pub after : Pool → Operation → Pool
+after p o = cond (eqb (refusal p o) DONE) (effect p o .pool) p
+
 -- a run of operations: the pool after it, the answer, the operations done, and two result words for each of them
 pub record Run : Type 0 where
   pub pool : Pool

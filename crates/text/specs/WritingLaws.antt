@@ -25,7 +25,7 @@ abbrev pub Plain : List ℕ → Type 0
 Plain [] = Unit {0}
 Plain (b ∷ bs) = (b ≡ 40 → ⊥) × (b ≡ 41 → ⊥) × Plain bs
 
-plain-append : (a b : List ℕ) → Plain a → Plain b → Plain (a ++ b)
+pub plain-append : (a b : List ℕ) → Plain a → Plain b → Plain (a ++ b)
 plain-append [] b p q = q
 plain-append (x ∷ a) b p q = (p .0, p .1, plain-append a b (p .2) q)
 

@@ -1,0 +1,38 @@
+// The operations that drop an arrow.
+ghost use mathlib.Core.Logic.{_≢_};
+ghost use Prim.Native.Nat.{ℕ, _<_};
+ghost use Rattle.ops.specs.Replies.{operation, Gives};
+ghost use Rattle.pool.specs.Pool.{Sound};
+ghost use Rattle.pool.specs.Script.{ADV, ERASE};
+ghost use Rattle.table.specs.View.{holderCount, view, Table};
+use answers::Answer;
+use super::Kind;
+use super::Reply;
+use table::Shape;
+
+pub fn adv(s: Shape, t: &mut [u32], a: usize, b: usize) -> Reply
+    requires { ⌜ Table s (now t) ⌝ }
+    requires { ⌜ (a < holderCount s) × (b < holderCount s) × (a ≢ b) ⌝ }
+    requires { ⌜ Sound (view s (now t)) ⌝ }
+    ensures { λ r. ⌜ ((v : ℕ) → Gives s (now (t .exit)) r (view s (now (t .entry))) (operation ADV a b v)) ⌝ }
+{
+    if table::holder_of(s, t, a) == 0 {
+        return Reply::Refused(Answer::NULL);
+    }
+    if table::holder_of(s, t, b) != 0 {
+        return Reply::Refused(Answer::OCCUPIED);
+    }
+    let e = heads::first(s, t, a);
+    erasing::advance(s, t, a, b);
+    Reply::Done(e.kind, e.value)
+}
+
+pub fn erase(s: Shape, t: &mut [u32], a: usize) -> Reply
+    requires { ⌜ Table s (now t) ⌝ }
+    requires { ⌜ a < holderCount s ⌝ }
+    requires { ⌜ Sound (view s (now t)) ⌝ }
+    ensures { λ r. ⌜ ((b v : ℕ) → Gives s (now (t .exit)) r (view s (now (t .entry))) (operation ERASE a b v)) ⌝ }
+{
+    let n = erasing::erase(s, t, a);
+    Reply::Done(Kind::NUMBER, n as u32)
+}

@@ -1,0 +1,84 @@
+// The operations at the head of a list.
+ghost use mathlib.Core.Logic.{_≢_};
+ghost use Prim.Native.Nat.{ℕ, _<_};
+ghost use Rattle.ops.specs.Replies.{operation, Gives};
+ghost use Rattle.pool.specs.Pool.{Sound};
+ghost use Rattle.pool.specs.Script.{PFA, PFL, DECAP, BORROW, FIRST};
+ghost use Rattle.table.specs.View.{holderCount, view, Table};
+use answers::Answer;
+use super::Kind;
+use super::Reply;
+use table::Shape;
+
+pub fn pfa(s: Shape, t: &mut [u32], a: usize, v: u32) -> Reply
+    requires { ⌜ Table s (now t) ⌝ }
+    requires { ⌜ a < holderCount s ⌝ }
+    requires { ⌜ Sound (view s (now t)) ⌝ }
+    ensures { λ r. ⌜ ((b : ℕ) → Gives s (now (t .exit)) r (view s (now (t .entry))) (operation PFA a b v)) ⌝ }
+{
+    if table::free_head(s, t) == 0 {
+        return Reply::Refused(Answer::NO_ROOM);
+    }
+    heads::prefix_atom(s, t, a, v);
+    Reply::Done(Kind::NOTHING, 0)
+}
+
+pub fn pfl(s: Shape, t: &mut [u32], a: usize, b: usize) -> Reply
+    requires { ⌜ Table s (now t) ⌝ }
+    requires { ⌜ (a < holderCount s) × (b < holderCount s) × (a ≢ b) ⌝ }
+    requires { ⌜ Sound (view s (now t)) ⌝ }
+    ensures { λ r. ⌜ ((v : ℕ) → Gives s (now (t .exit)) r (view s (now (t .entry))) (operation PFL a b v)) ⌝ }
+{
+    if table::free_head(s, t) == 0 {
+        return Reply::Refused(Answer::NO_ROOM);
+    }
+    heads::prefix_list(s, t, a, b);
+    Reply::Done(Kind::NOTHING, 0)
+}
+
+pub fn decap(s: Shape, t: &mut [u32], a: usize, b: usize) -> Reply
+    requires { ⌜ Table s (now t) ⌝ }
+    requires { ⌜ (a < holderCount s) × (b < holderCount s) × (a ≢ b) ⌝ }
+    requires { ⌜ Sound (view s (now t)) ⌝ }
+    ensures { λ r. ⌜ ((v : ℕ) → Gives s (now (t .exit)) r (view s (now (t .entry))) (operation DECAP a b v)) ⌝ }
+{
+    let x = table::holder_of(s, t, a);
+    if x == 0 {
+        return Reply::Refused(Answer::NULL);
+    }
+    if table::holder_of(s, t, b) != 0 {
+        return Reply::Refused(Answer::OCCUPIED);
+    }
+    if table::count_of(s, t, x) > 1 {
+        return Reply::Refused(Answer::SHARED);
+    }
+    let e = heads::first(s, t, a);
+    heads::behead(s, t, a, b);
+    Reply::Done(e.kind, e.value)
+}
+
+pub fn borrow(s: Shape, t: &mut [u32], a: usize, b: usize) -> Reply
+    requires { ⌜ Table s (now t) ⌝ }
+    requires { ⌜ (a < holderCount s) × (b < holderCount s) × (a ≢ b) ⌝ }
+    requires { ⌜ Sound (view s (now t)) ⌝ }
+    ensures { λ r. ⌜ ((v : ℕ) → Gives s (now (t .exit)) r (view s (now (t .entry))) (operation BORROW a b v)) ⌝ }
+{
+    if table::holder_of(s, t, b) != 0 {
+        return Reply::Refused(Answer::OCCUPIED);
+    }
+    heads::borrow(s, t, a, b);
+    Reply::Done(Kind::NOTHING, 0)
+}
+
+pub fn first(s: Shape, t: &mut [u32], a: usize) -> Reply
+    requires { ⌜ Table s (now t) ⌝ }
+    requires { ⌜ a < holderCount s ⌝ }
+    requires { ⌜ Sound (view s (now t)) ⌝ }
+    ensures { λ r. ⌜ ((b v : ℕ) → Gives s (now (t .exit)) r (view s (now (t .entry))) (operation FIRST a b v)) ⌝ }
+{
+    if table::holder_of(s, t, a) == 0 {
+        return Reply::Refused(Answer::NULL);
+    }
+    let e = heads::first(s, t, a);
+    Reply::Done(e.kind, e.value)
+}

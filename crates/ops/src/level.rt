@@ -1,0 +1,67 @@
+// The operations on a main level.
+ghost use mathlib.Core.Logic.{_≢_};
+ghost use Prim.Native.Nat.{ℕ, _<_};
+ghost use Rattle.ops.specs.Replies.{operation, Gives};
+ghost use Rattle.pool.specs.Pool.{Sound};
+ghost use Rattle.pool.specs.Script.{INV, CINV, CONC, LENGTH};
+ghost use Rattle.table.specs.View.{holderCount, view, Table};
+use answers::Answer;
+use super::Kind;
+use super::Reply;
+use table::Shape;
+
+pub fn inv(s: Shape, t: &mut [u32], a: usize) -> Reply
+    requires { ⌜ Table s (now t) ⌝ }
+    requires { ⌜ a < holderCount s ⌝ }
+    requires { ⌜ Sound (view s (now t)) ⌝ }
+    ensures { λ r. ⌜ ((b v : ℕ) → Gives s (now (t .exit)) r (view s (now (t .entry))) (operation INV a b v)) ⌝ }
+{
+    if levels::walk::any_shared(s, t, a) {
+        return Reply::Refused(Answer::SHARED);
+    }
+    levels::invert::invert(s, t, a);
+    Reply::Done(Kind::NOTHING, 0)
+}
+
+pub fn cinv(s: Shape, t: &mut [u32], a: usize, b: usize) -> Reply
+    requires { ⌜ Table s (now t) ⌝ }
+    requires { ⌜ (a < holderCount s) × (b < holderCount s) × (a ≢ b) ⌝ }
+    requires { ⌜ Sound (view s (now t)) ⌝ }
+    ensures { λ r. ⌜ ((v : ℕ) → Gives s (now (t .exit)) r (view s (now (t .entry))) (operation CINV a b v)) ⌝ }
+{
+    if table::holder_of(s, t, b) != 0 {
+        return Reply::Refused(Answer::OCCUPIED);
+    }
+    if !levels::walk::fits(s, t, a) {
+        return Reply::Refused(Answer::NO_ROOM);
+    }
+    levels::copy::copy_inverted(s, t, a, b);
+    Reply::Done(Kind::NOTHING, 0)
+}
+
+pub fn conc(s: Shape, t: &mut [u32], a: usize, b: usize) -> Reply
+    requires { ⌜ Table s (now t) ⌝ }
+    requires { ⌜ (a < holderCount s) × (b < holderCount s) × (a ≢ b) ⌝ }
+    requires { ⌜ Sound (view s (now t)) ⌝ }
+    ensures { λ r. ⌜ ((v : ℕ) → Gives s (now (t .exit)) r (view s (now (t .entry))) (operation CONC a b v)) ⌝ }
+{
+    if table::holder_of(s, t, b) == 0 {
+        return Reply::Done(Kind::NOTHING, 0);
+    }
+    let e = levels::walk::end_of(s, t, a);
+    if e.shared {
+        return Reply::Refused(Answer::SHARED);
+    }
+    levels::join::concatenate(s, t, a, b, e.last);
+    Reply::Done(Kind::NOTHING, 0)
+}
+
+pub fn length(s: Shape, t: &mut [u32], a: usize) -> Reply
+    requires { ⌜ Table s (now t) ⌝ }
+    requires { ⌜ a < holderCount s ⌝ }
+    requires { ⌜ Sound (view s (now t)) ⌝ }
+    ensures { λ r. ⌜ ((b v : ℕ) → Gives s (now (t .exit)) r (view s (now (t .entry))) (operation LENGTH a b v)) ⌝ }
+{
+    let n = levels::walk::length(s, t, a);
+    Reply::Done(Kind::NUMBER, n as u32)
+}

@@ -1,0 +1,141 @@
+// One operation: its tests in the order of the answers 6 to 12, before anything is changed, and then its effect.
+ghost use mathlib.Core.Path.{_≡_};
+ghost use mathlib.Core.Bool.{_&&_};
+ghost use Prim.Native.Nat.{ℕ};
+ghost use lib.Dec.{leb};
+ghost use Rattle.ops.specs.Replies.{operation, Gives};
+ghost use Rattle.ops.specs.Tests.{early};
+ghost use Rattle.pool.specs.Pool.{Sound};
+ghost use Rattle.pool.specs.Script.{PFA, LENGTH, usesB};
+ghost use Rattle.pool.specs.ScriptLaws.{Opened};
+ghost use Rattle.table.specs.View.{holderCount, view, Table};
+
+pub mod drop;
+pub mod head;
+pub mod level;
+
+use answers::Answer;
+use table::Shape;
+
+// The codes of the operations.
+pub struct Code(pub u32);
+
+impl Code {
+    pub const PFA: u32 = 1;
+
+    pub const PFL: u32 = 2;
+
+    pub const DECAP: u32 = 3;
+
+    pub const ADV: u32 = 4;
+
+    pub const BORROW: u32 = 5;
+
+    pub const ERASE: u32 = 6;
+
+    pub const INV: u32 = 7;
+
+    pub const CINV: u32 = 8;
+
+    pub const CONC: u32 = 9;
+
+    pub const FIRST: u32 = 10;
+
+    pub const LENGTH: u32 = 11;
+}
+
+// What an operation answers: two result words, kind and value, or the number of its refusal.
+pub enum Reply {
+    Done(u32, u32),
+    Refused(u32),
+}
+
+// The kinds of results beside those of a first element, which are 0 and 1.
+pub struct Kind(pub u32);
+
+impl Kind {
+    pub const NUMBER: u32 = 2;
+
+    pub const NOTHING: u32 = 3;
+}
+
+fn is_code(code: u32) -> bool
+    ensures { λ r. ⌜ r ≡ (leb PFA code && leb code LENGTH) ⌝ }
+{
+    if code < Code::PFA {
+        return false;
+    }
+    code <= Code::LENGTH
+}
+
+// Whether an operation uses b.
+fn uses_b(code: u32) -> bool
+    ensures { λ r. ⌜ r ≡ usesB code ⌝ }
+{
+    match code {
+        Code::PFL => true,
+        Code::DECAP => true,
+        Code::ADV => true,
+        Code::BORROW => true,
+        Code::CINV => true,
+        Code::CONC => true,
+        _ => false,
+    }
+}
+
+// The tests that look at the words of the operation alone.
+fn early(s: Shape, code: u32, a: u32, b: u32) -> u32
+    ensures { λ r. ⌜ ((v : ℕ) → r ≡ early (holderCount s) (operation code a b v)) ⌝ }
+{
+    if !is_code(code) {
+        return Answer::CODE;
+    }
+    if a as usize >= s.holders() {
+        return Answer::HOLDER;
+    }
+    if !uses_b(code) {
+        return Answer::DONE;
+    }
+    if b as usize >= s.holders() {
+        return Answer::HOLDER;
+    }
+    if a == b {
+        return Answer::SAME;
+    }
+    Answer::DONE
+}
+
+// The operation that the code names, its words in order.
+fn dispatch(s: Shape, t: &mut [u32], code: u32, a: usize, b: usize, v: u32) -> Reply
+    requires { ⌜ Table s (now t) ⌝ }
+    requires { ⌜ Sound (view s (now t)) ⌝ }
+    requires { ⌜ Opened (view s (now t)) (operation code a b v) ⌝ }
+    ensures { λ r. ⌜ Gives s (now (t .exit)) r (view s (now (t .entry))) (operation code a b v) ⌝ }
+{
+    match code {
+        Code::PFA => head::pfa(s, t, a, v),
+        Code::PFL => head::pfl(s, t, a, b),
+        Code::DECAP => head::decap(s, t, a, b),
+        Code::ADV => drop::adv(s, t, a, b),
+        Code::BORROW => head::borrow(s, t, a, b),
+        Code::ERASE => drop::erase(s, t, a),
+        Code::INV => level::inv(s, t, a),
+        Code::CINV => level::cinv(s, t, a, b),
+        Code::CONC => level::conc(s, t, a, b),
+        Code::FIRST => head::first(s, t, a),
+        _ => level::length(s, t, a),
+    }
+}
+
+// One operation on a sound table: any code, any words.
+pub fn perform(s: Shape, t: &mut [u32], code: u32, a: u32, b: u32, v: u32) -> Reply
+    requires { ⌜ Table s (now t) ⌝ }
+    requires { ⌜ Sound (view s (now t)) ⌝ }
+    ensures { λ r. ⌜ Gives s (now (t .exit)) r (view s (now (t .entry))) (operation code a b v) ⌝ }
+{
+    let refusal = early(s, code, a, b);
+    if refusal != Answer::DONE {
+        return Reply::Refused(refusal);
+    }
+    dispatch(s, t, code, a as usize, b as usize, v)
+}

@@ -1,0 +1,15 @@
+pub mod Numeral
+pub mod NumeralLaws
+pub mod Steps
+pub mod StepLaws
+pub mod Put
+pub mod PutLaws
+pub mod Measures
+pub mod Walking
+pub mod TurnLaws
+pub mod WalkingLaws
+pub mod MeasureLaws
+pub mod Putting
+pub mod PuttingLaws
+pub mod Wrote
+pub mod WroteLaws

@@ -1,0 +1,20 @@
+-- Bytes put into a text that will end at a known place: what stands before them stays, and what stands behind that end.
+use Prim.Native.Nat.{ℕ, _+_, _≤_, _<_}
+use mathlib.Core.Path.{_≡_}
+use mathlib.Core.Logic.{_≢_}
+use mathlib.Core.List.{List, _++_}
+use lib.ListN.{length, take, drop}
+use Rattle.pool.specs.Pool.{Cell, kindOf}
+use Rattle.writing.specs.declared.walk.Walk.{Walk}
+use Rattle.writing.specs.Steps.{shutAt, passAt}
+
+pub record Put (old new : List ℕ) (at end : ℕ) (bs : List ℕ) : Type 0 where
+  pub text : take (at + length bs) new ≡ take at old ++ bs
+  pub behind : drop end new ≡ drop end old
+  pub room : length new ≡ length old
+
+-- the characters of a turn end in time
+pub record Roomy (cs : List Cell) (after : List ℕ) (w : Walk) (end : ℕ) : Type 0 where
+  pub shuts : w .at ≡ 0 → shutAt after w .size ≤ end
+  pub passes : w .at ≢ 0 → kindOf cs (w .at) ≡ 0 → passAt cs w .size ≤ end
+  pub opens : w .at ≢ 0 → kindOf cs (w .at) ≢ 0 → w .size < end

@@ -1,0 +1,88 @@
+// Writing the list of a holder as text: refused before a byte is written, or written whole with its fill.
+ghost use mathlib.Core.Path.{_≡_};
+ghost use mathlib.Core.List.{List};
+ghost use Prim.Native.Nat.{ℕ, _-_, _≤_};
+ghost use lib.ListN.{length, replicate};
+ghost use lib.Seq.{paste};
+ghost use Rattle.calls.specs.Write.{writeList, writeOut};
+ghost use Rattle.table.specs.View.{view, Table};
+ghost use Rattle.text.specs.Limits.{textMost};
+ghost use Rattle.text.specs.Writing.{usable};
+ghost use Rattle.writing.specs.Measures.{listAt, Stands};
+ghost use Rattle.writing.specs.Wrote.{recordEnd, wrote};
+use answers::Answer;
+use answers::Outcome;
+use crate::limits::Record;
+use table::Shape;
+
+pub mod atoms;
+pub mod limits;
+pub mod put;
+pub mod walk;
+
+// The largest multiple of a record within both the room lent and a text.
+fn usable(room: usize) -> usize
+    ensures { λ r. ⌜ r ≡ usable room ⌝ }
+{
+    if room > Record::TEXT {
+        return Record::TEXT;
+    }
+    room / Record::BYTES * Record::BYTES
+}
+
+// Where the record ends in which the last of n characters stands.
+fn record_end(n: usize) -> usize
+    requires { ⌜ n ≤ textMost ⌝ }
+    ensures { λ r. ⌜ r ≡ recordEnd n ⌝ }
+{
+    (n + Record::BYTES - 1) / Record::BYTES * Record::BYTES
+}
+
+// Blanks.
+fn fill(out: &mut [u8], from: usize, to: usize)
+    requires { ⌜ (from ≤ to) × (to ≤ length (now out)) ⌝ }
+    ensures { λ r. ⌜ now (out .exit) ≡ paste (now (out .entry)) from (replicate (to - from) 32) (to - from) ⌝ }
+{
+    let mut i = from;
+    while i < to {
+        out[i] = b' ';
+        i += 1;
+    }
+}
+
+// The list at x.
+fn write_list(s: Shape, t: &[u32], x: usize, out: &mut [u8]) -> Outcome
+    requires { ⌜ Table s (now t) ⌝ }
+    requires { ⌜ Stands (view s (now t) .cells) x ⌝ }
+    ensures { λ r. ⌜ ((ws : List ℕ) → wrote r ws (now (out .exit)) ≡ writeList (listAt (view s (now (t .entry)) .cells) x) ws (now (out .entry))) ⌝ }
+{
+    let m = walk::measure(s, t, x, usable(out.len()));
+    if m.answer != Answer::DONE {
+        return Outcome::refused(m.answer);
+    }
+    put::put(s, t, x, out, m.size);
+    let end = record_end(m.size);
+    fill(out, m.size, end);
+    Outcome::done(end as u32)
+}
+
+pub fn write(table: &[u32], work: &mut [u32], h: u32, out: &mut [u8]) -> Outcome
+    ensures { λ r. ⌜ wrote r (now (work .exit)) (now (out .exit)) ≡ writeOut (now (table .entry)) (now (work .entry)) h (now (out .entry)) ⌝ }
+{
+    let n = table::cells_of(table);
+    if n == 0 {
+        return Outcome::refused(Answer::TABLE_SIZE);
+    }
+    if work.len() < 2 * n {
+        return Outcome::refused(Answer::WORK_SPACE);
+    }
+    let s = Shape { cells: n };
+    if h as usize >= s.holders() {
+        return Outcome::refused(Answer::HOLDER);
+    }
+    if !sound::is_sound(s, table, work) {
+        return Outcome::refused(Answer::UNSOUND);
+    }
+    let x = table::holder_of(s, table, h as usize);
+    write_list(s, table, x, out)
+}

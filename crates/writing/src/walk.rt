@@ -1,0 +1,168 @@
+// The way through a list, character by character: the next cell, the levels that are open, and the characters passed.
+// Each open level has the cell with which it goes on kept in a local array.
+ghost use mathlib.Core.Path.{_≡_};
+ghost use mathlib.Core.Bool.{_&&_};
+ghost use mathlib.Core.List.{List};
+ghost use mathlib.Core.Logic.{_≢_};
+ghost use Prim.Native.Nat.{ℕ, _<_, _≤_};
+ghost use lib.Dec.{leb};
+ghost use lib.ListN.{length};
+ghost use Rattle.text.specs.Limits.{levels, textMost};
+ghost use Rattle.table.specs.View.{view, Table, IsCell};
+ghost use Rattle.writing.specs.Steps.{begun, comma, shutAt, passAt, openAt, keptAt, opensAt, Ready, Turn};
+ghost use Rattle.writing.specs.Measures.{Stands, Measures};
+use answers::Answer;
+use crate::atoms;
+use crate::limits::Level;
+use table::Shape;
+
+// Where the next character comes from: a cell, or ")" at 0.
+pub struct Walk {
+    pub at: usize,
+    pub depth: usize,
+    pub size: usize,
+}
+
+// What measuring says: DONE and the size of the text, or DEEP or OUTPUT.
+pub struct Measured {
+    pub answer: u32,
+    pub size: usize,
+}
+
+impl Walk {
+    // behind the outermost "("
+    pub fn begun(x: usize) -> Walk
+        ensures { λ r. ⌜ r ≡ begun x ⌝ }
+    {
+        Walk {
+            at: x,
+            depth: 1,
+            size: 1,
+        }
+    }
+}
+
+// A further element has "," before it.
+fn commas(x: usize) -> usize
+    ensures { λ r. ⌜ (r ≡ length (comma x)) × (r ≤ 1) ⌝ }
+{
+    if x == 0 {
+        return 0;
+    }
+    1
+}
+
+// ")"
+pub fn shut(after: &[usize; Level::MOST], w: Walk) -> Walk
+    requires { ⌜ (1 ≤ w .depth) × (w .depth ≤ levels) × (w .size ≤ textMost) ⌝ }
+    ensures { λ r. ⌜ r ≡ shutAt (now (after .entry)) w ⌝ }
+{
+    let depth = w.depth - 1;
+    let at = after[depth];
+    Walk {
+        at,
+        depth,
+        size: w.size + 1 + commas(at),
+    }
+}
+
+// An atom.
+pub fn pass(s: Shape, t: &[u32], w: Walk) -> Walk
+    requires { ⌜ Table s (now t) ⌝ }
+    requires { ⌜ IsCell s (w .at) ⌝ }
+    requires { ⌜ w .size ≤ textMost ⌝ }
+    ensures { λ r. ⌜ r ≡ passAt (view s (now (t .entry)) .cells) w ⌝ }
+{
+    let x = w.at;
+    let at = table::next_of(s, t, x);
+    let digits = atoms::count(table::elem_of(s, t, x));
+    Walk {
+        at,
+        depth: w.depth,
+        size: w.size + digits + commas(at),
+    }
+}
+
+// "(" of an element
+pub fn open(s: Shape, t: &[u32], after: &mut [usize; Level::MOST], w: Walk) -> Walk
+    requires { ⌜ Table s (now t) ⌝ }
+    requires { ⌜ IsCell s (w .at) ⌝ }
+    requires { ⌜ (w .depth < levels) × (w .size ≤ textMost) ⌝ }
+    ensures { λ r. ⌜ (r ≡ openAt (view s (now (t .entry)) .cells) w) × (now (after .exit) ≡ keptAt (view s (now (t .entry)) .cells) (now (after .entry)) w) ⌝ }
+{
+    let x = w.at;
+    let depth = w.depth;
+    after[depth] = table::next_of(s, t, x);
+    Walk {
+        at: table::elem_of(s, t, x) as usize,
+        depth: depth + 1,
+        size: w.size + 1,
+    }
+}
+
+// Whether the next character opens level 201.
+fn too_deep(s: Shape, t: &[u32], w: Walk) -> bool
+    requires { ⌜ Table s (now t) ⌝ }
+    requires { ⌜ (w .at ≢ 0 → IsCell s (w .at)) ⌝ }
+    ensures { λ r. ⌜ r ≡ (leb levels (w .depth) && opensAt (view s (now (t .entry)) .cells) (w .at)) ⌝ }
+{
+    if w.depth < Level::MOST {
+        return false;
+    }
+    let x = w.at;
+    if x == 0 {
+        return false;
+    }
+    table::kind_of(s, t, x) != 0
+}
+
+fn step(s: Shape, t: &[u32], after: &mut [usize; Level::MOST], w: Walk) -> Walk
+    requires { ⌜ Table s (now t) ⌝ }
+    requires { ⌜ Ready s (view s (now t) .cells) w ⌝ }
+    ensures { λ r. ⌜ ((bs : List ℕ) × Turn (view s (now (t .entry)) .cells) (now (after .entry)) w (now (after .exit)) r bs) ⌝ }
+{
+    let x = w.at;
+    if x == 0 {
+        return shut(after, w);
+    }
+    if table::kind_of(s, t, x) == 0 {
+        return pass(s, t, w);
+    }
+    open(s, t, after, w)
+}
+
+// The size of the text of the list at x, if it is not too deep and the usable bytes hold it.
+pub fn measure(s: Shape, t: &[u32], x: usize, usable: usize) -> Measured
+    requires { ⌜ Table s (now t) ⌝ }
+    requires { ⌜ Stands (view s (now t) .cells) x ⌝ }
+    requires { ⌜ usable ≤ textMost ⌝ }
+    ensures { λ r. ⌜ Measures (view s (now (t .entry)) .cells) x usable r ⌝ }
+{
+    if usable == 0 {
+        return Measured {
+            answer: Answer::OUTPUT,
+            size: 0,
+        };
+    }
+    let mut after = [0; Level::MOST];
+    let mut w = Walk::begun(x);
+    while w.depth > 0 {
+        if too_deep(s, t, w) {
+            return Measured {
+                answer: Answer::DEEP,
+                size: 0,
+            };
+        }
+        w = step(s, t, &mut after, w);
+        if w.size > usable {
+            return Measured {
+                answer: Answer::OUTPUT,
+                size: 0,
+            };
+        }
+    }
+    Measured {
+        answer: Answer::DONE,
+        size: w.size,
+    }
+}
