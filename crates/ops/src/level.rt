@@ -5,9 +5,9 @@ ghost use Rattle.ops.specs.Replies.{operation, Gives};
 ghost use Rattle.pool.specs.Pool.{Sound};
 ghost use Rattle.pool.specs.Script.{INV, CINV, CONC, LENGTH};
 ghost use Rattle.table.specs.View.{holderCount, view, Table};
-use answers::Answer;
 use super::Kind;
 use super::Reply;
+use answers::Answer;
 use table::Shape;
 
 pub fn inv(s: Shape, t: &mut [u32], a: usize) -> Reply

@@ -1,12 +1,12 @@
 -- The check's answer and the list: what it takes is written back without blanks and leading zeros, and its extent is counted along the text.
-use Prim.Native.Nat.{ℕ, suc, _+_, _-_, _*_, _%_, _≤_}
+use Prim.Native.Nat.{ℕ, suc, _+_, _-_, _*_, _%_, _<_, _≤_}
 use mathlib.Core.Path.{_≡_, refl, ap, _∙_}
 use mathlib.Core.List.{List, [], _∷_}
 use mathlib.Core.Bool.{Bool, true, false, cond}
 use native.Mathlib.Omega.{arith}
 use lib.ListN.{length, length-append, take}
 use lib.Dec.{eqb, leb, ltb}
-use borrow.Author.Tests.{leb-true}
+use borrow.Author.Tests.{leb-true, eq-eqb, ne-eqb, le-leb}
 use Rattle.lists.specs.Lst.{extent}
 use Rattle.text.specs.Limits.{levels, recordBytes, textMost, digitsMost, atomsEnd}
 use Rattle.text.specs.Text.{Scan, begin, mayOpen, mayShut, mayPart, mayBegin, isAtom, isOver, Step, mark, fault, State, at, refused, taken, next, run, settle, stepOf, Answer, answer, scanned, verdict, done, refusal}
@@ -48,19 +48,21 @@ faults-numbered s b =
     (no 14))
     (no 14)))))
 
+-- a refusal has a number, and what is taken has bytes
 abbrev Honest : State → Type 0
 Honest (at s n) = Unit {0}
 Honest (refused k) = k ≡ 0 → ⊥
-Honest (taken n) = Unit {0}
+Honest (taken n) = n ≡ 0 → ⊥
 
-settle-honest : (n : ℕ) (u : Step) → Numbered u → Honest (settle n u)
-settle-honest n (mark s) h = either Honest (isOver (s .phase)) (either Honest (eqb (n % recordBytes) 0) tt tt) tt
+settle-honest : (n : ℕ) (u : Step) → Numbered u → Honest (settle (n + 1) u)
+settle-honest n (mark s) h =
+    either Honest (isOver (s .phase)) (either Honest (eqb ((n + 1) % recordBytes) 0) (λ e. omega arith) tt) tt
 settle-honest n (fault k) h = h
 
 next-honest : (st : State) (b : ℕ) → Honest st → Honest (next st b)
-next-honest (at s n) b h = settle-honest (n + 1) (stepOf s b) (faults-numbered s b)
+next-honest (at s n) b h = settle-honest n (stepOf s b) (faults-numbered s b)
 next-honest (refused k) b h = h
-next-honest (taken n) b h = tt
+next-honest (taken n) b h = h
 
 run-honest : (l : List ℕ) (st : State) → Honest st → Honest (run st l)
 run-honest [] st h = h
@@ -70,6 +72,16 @@ answer-taken : (st : State) (m : ℕ) → Honest st → answer st ≡ done m →
 answer-taken (at s n) m h e = let z : _≡_ {A = ℕ} 15 0 = ap (λ (a : Answer). a .no) e in absurd (omega arith)
 answer-taken (refused k) m h e = absurd (h (ap (λ (a : Answer). a .no) e))
 answer-taken (taken n) m h e = ap taken (ap (λ (a : Answer). a .taken) e)
+
+nought : (st : State) → Honest st → answer st ≡ refusal 0 → ⊥
+nought (at s n) h e = let z : _≡_ {A = ℕ} 15 0 = ap (λ (a : Answer). a .no) e in omega arith
+nought (refused k) h e = h (ap (λ (a : Answer). a .no) e)
+nought (taken n) h e = h (ap (λ (a : Answer). a .taken) e)
+
+-- no text is answered by 0 and 0
+pub never-nought : (s : List ℕ) → scanned s ≡ refusal 0 → ⊥
+unfolding scanned
+never-nought s e = nought (run (at begin 0) s) (run-honest s (at begin 0) tt) e
 
 pub scanned-run : (s : List ℕ) (m : ℕ) → scanned s ≡ done m → run (at begin 0) s ≡ taken m
 unfolding scanned
@@ -91,6 +103,12 @@ sized s m e =
     let whole = past (eqb (length s % recordBytes) 0) 12 (cond (leb (length s) textMost) some (refusal 13)) m e in
     let fits = past (leb (length s) textMost) 12 some m (whole .1) in
     (leb-true _ _ (fits .0), past-first (eqb (length s) 0) 13 (scanned s) m (fits .1))
+
+pub right-size : (s : List ℕ) → 0 < length s → length s ≤ textMost → length s % recordBytes ≡ 0 → verdict s ≡ scanned s
+unfolding verdict
+right-size s h small whole =
+    let some : length s ≡ 0 → ⊥ = λ z. omega arith in
+    simp (eq-eqb _ _ whole, le-leb _ _ small, ne-eqb _ _ some)
 
 pub taken-run : (s : List ℕ) (m : ℕ) → verdict s ≡ done m → run (at begin 0) s ≡ taken m
 taken-run s m e = scanned-run s m ((sized s m e) .1)

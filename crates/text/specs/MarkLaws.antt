@@ -62,7 +62,7 @@ trace-blanks (suc k) st =
     ap (λ (es : List Mark). es ++ trace (next st 32) (replicate k 32)) (blank-met st) ∙ trace-blanks k (next st 32)
 
 -- the elements that begin
-begun-append : (a b : List Mark) → begun (a ++ b) ≡ begun a + begun b
+pub begun-append : (a b : List Mark) → begun (a ++ b) ≡ begun a + begun b
 begun-append [] b = omega arith
 begun-append (opened ∷ a) b = omega (arith, begun-append a b)
 begun-append (shut ∷ a) b = begun-append a b

@@ -53,14 +53,14 @@ put-store xs ys store bs at end k n is fits ends stored size front some =
     let e : length (take at xs) + k ≡ at + length bs = omega (arith, length-take-le at xs low) in
     let made : Put xs (paste xs at store n) at end bs = record {
       text =
-        ap (λ (j : ℕ). take j (paste xs at store n)) (sym e)
-        ∙ take-append-le (length (take at xs) + k) head (drop (at + n) xs) (omega (arith, length-paste-head xs at store n low stored))
-        ∙ take-append-add (take at xs) (take n store) k
-        ∙ ap (λ (t : List ℕ). take at xs ++ t) (take-take k n store some ∙ front);
+          ap (λ (j : ℕ). take j (paste xs at store n)) (sym e)
+          ∙ take-append-le (length (take at xs) + k) head (drop (at + n) xs) (omega (arith, length-paste-head xs at store n low stored))
+          ∙ take-append-add (take at xs) (take n store) k
+          ∙ ap (λ (t : List ℕ). take at xs ++ t) (take-take k n store some ∙ front);
       behind =
-        ap (λ (j : ℕ). drop j (paste xs at store n)) (sym d) ∙ sym (drop-drop (end - (at + n)) (at + n) (paste xs at store n))
-        ∙ ap (drop (end - (at + n))) (drop-paste xs at store n low stored)
-        ∙ drop-drop (end - (at + n)) (at + n) xs ∙ ap (λ (j : ℕ). drop j xs) d;
+          ap (λ (j : ℕ). drop j (paste xs at store n)) (sym d) ∙ sym (drop-drop (end - (at + n)) (at + n) (paste xs at store n))
+          ∙ ap (drop (end - (at + n))) (drop-paste xs at store n low stored)
+          ∙ drop-drop (end - (at + n)) (at + n) xs ∙ ap (λ (j : ℕ). drop j xs) d;
       room = length-paste xs at store n all stored;
     } in
     subst (λ (t : List ℕ). Put xs t at end bs) (sym is) made

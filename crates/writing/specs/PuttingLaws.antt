@@ -66,13 +66,16 @@ module _ (cs : List Cell) (t old : List ℕ) (end : ℕ) (out after : List ℕ) 
       let d = turned cs t end after w (g .walks) some next r bs (shallow f) u in
       let fits : r .size ≤ end = omega (arith, within next r bs d) in
       let taken : take (w .size + length bs) t ≡ take (w .size) t ++ bs
-      = take-add (w .size) (length bs) t ∙ ap (λ (b : List ℕ). take (w .size) t ++ b) (ap (take (length bs)) (d .text) ∙ take-append-seam bs (rest (d .opened))) in
-      (record {
-        walks = goes-on cs t end after w (g .walks) some next r bs d fits;
-        front = ap (λ (k : ℕ). take k new) (d .size) ∙ p .text ∙ ap (λ (b : List ℕ). b ++ bs) (g .front) ∙ sym taken ∙ ap (λ (k : ℕ). take k t) (sym (d .size));
-        behind = p .behind ∙ g .behind;
-        room = p .room ∙ g .room;
-      }, fits, omega (arith, d .size, d .more))
+      = take-add (w .size) (length bs) t ∙ ap (λ (b : List ℕ). take (w .size) t ++ b) (ap (take (length bs)) (d .text) ∙ take-append-seam bs (rest (d .opened))) in (
+        record {
+          walks = goes-on cs t end after w (g .walks) some next r bs d fits;
+          front = ap (λ (k : ℕ). take k new) (d .size) ∙ p .text ∙ ap (λ (b : List ℕ). b ++ bs) (g .front) ∙ sym taken ∙ ap (λ (k : ℕ). take k t) (sym (d .size));
+          behind = p .behind ∙ g .behind;
+          room = p .room ∙ g .room;
+        },
+        fits,
+        omega (arith, d .size, d .more),
+      )
 
 pub put-ends : (cs : List Cell) (x end : ℕ) (xs out after : List ℕ) (w : Walk) → Putting cs (textAt cs x) (set xs 0 40) end out after w → Fitting cs x end → w .depth ≡ 0 → out ≡ over (textAt cs x) xs
 put-ends cs x end xs out after w g f z =

@@ -59,11 +59,14 @@ module _ (cs : List Cell) (after : List ℕ) where
   goes-pass (nil ∷ ls) d x e l h n t = absurd (n (h .0))
   goes-pass (list m k ∷ ls) d x e l h n t = absurd (omega (arith, h .0 .1))
   goes-pass (atom v k ∷ ls) d x e l h n t =
-      let there = h .0 .3 in
-      (k ∷ ls, e, (there, h .1),
+      let there = h .0 .3 in (
+        k ∷ ls,
+        e,
+        (there, h .1),
         ap (λ (a : ℕ). (numeral a ++ items false k) ++ above ls) (sym (h .0 .2)) ∙ append-assoc (numeral (elemOf cs x)) (items false k) (above ls)
-        ∙ ap (λ (u : List ℕ). numeral (elemOf cs x) ++ u) (going cs (nextOf cs x) k ls there)
-        ∙ sym (append-assoc (numeral (elemOf cs x)) (comma (nextOf cs x)) (rest (k ∷ ls))))
+            ∙ ap (λ (u : List ℕ). numeral (elemOf cs x) ++ u) (going cs (nextOf cs x) k ls there)
+            ∙ sym (append-assoc (numeral (elemOf cs x)) (comma (nextOf cs x)) (rest (k ∷ ls))),
+      )
 
   -- what is kept higher leaves the levels below
   above-kept : (ls : List Lst) (d y : ℕ) → length ls < d → Above cs after ls → Above cs (set after d y) ls
@@ -80,9 +83,12 @@ module _ (cs : List Cell) (after : List ℕ) where
   goes-open (list m k ∷ ls) d x e l w h n t =
       let y = nextOf cs x in
       let q : getD (set after d y) (suc (length ls)) 0 ≡ y = ap (λ (j : ℕ). getD (set after d y) j 0) e ∙ getD-set-same after d y 0 w in
-      let there = subst (λ (j : ℕ). ListAt cs j k) (sym q) (h .0 .3) in
-      (m ∷ (k ∷ ls), omega arith, (h .0 .2, (there, above-kept ls d y (omega arith) (h .1))),
-        append-assoc (items true m) (items false k) (above ls) ∙ ap (λ (u : List ℕ). u ++ (items false k ++ above ls)) (opens-body m))
+      let there = subst (λ (j : ℕ). ListAt cs j k) (sym q) (h .0 .3) in (
+        m ∷ (k ∷ ls),
+        omega arith,
+        (h .0 .2, (there, above-kept ls d y (omega arith) (h .1))),
+        append-assoc (items true m) (items false k) (above ls) ∙ ap (λ (u : List ℕ). u ++ (items false k ++ above ls)) (opens-body m),
+      )
 
   -- a list for an element begins with "("
   pub opening : (opened : List Lst) (x : ℕ) → 1 ≤ length opened → Here cs after x opened → x ≢ 0 → kindOf cs x ≢ 0 → (t : List ℕ) × (rest opened ≡ 40 ∷ t)

@@ -56,7 +56,6 @@ filled t xs bs k e =
     ∙ ap (λ (a : List ℕ). (t ++ bs) ++ a) (drop-append-add t rest k ∙ drop-drop k (length t) xs ∙ ap (λ (j : ℕ). drop j xs) (sym n))
 
 module _ (l : Lst) (ws xs : List ℕ) (r : Outcome) where
-
   pub list-refused : (n : ℕ) → n ≡ judged (usable (length xs)) 0 (textOf l) → n ≢ 0 → r ≡ refused n → wrote r ws xs ≡ writeList l ws xs
   list-refused n e z q =
       ap (λ (o : Outcome). wrote o ws xs) q ∙ ap (λ (k : ℕ). notWritten k ws xs) e

@@ -10,9 +10,9 @@ ghost use Rattle.text.specs.Limits.{textMost};
 ghost use Rattle.text.specs.Writing.{usable};
 ghost use Rattle.writing.specs.Measures.{listAt, Stands};
 ghost use Rattle.writing.specs.Wrote.{recordEnd, wrote};
+use crate::limits::Record;
 use answers::Answer;
 use answers::Outcome;
-use crate::limits::Record;
 use table::Shape;
 
 pub mod atoms;

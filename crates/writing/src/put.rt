@@ -55,7 +55,14 @@ fn put_pass(s: Shape, t: &[u32], out: &mut [u8], end: usize, w: Walk) -> Walk
     r
 }
 
-fn put_step(s: Shape, t: &[u32], after: &mut [usize; Level::MOST], out: &mut [u8], end: usize, w: Walk) -> Walk
+fn put_step(
+    s: Shape,
+    t: &[u32],
+    after: &mut [usize; Level::MOST],
+    out: &mut [u8],
+    end: usize,
+    w: Walk,
+) -> Walk
     requires { ⌜ Table s (now t) ⌝ }
     requires { ⌜ Ready s (view s (now t) .cells) w ⌝ }
     requires { ⌜ Roomy (view s (now t) .cells) (now after) w end ⌝ }

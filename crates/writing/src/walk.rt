@@ -11,9 +11,9 @@ ghost use Rattle.text.specs.Limits.{levels, textMost};
 ghost use Rattle.table.specs.View.{view, Table, IsCell};
 ghost use Rattle.writing.specs.Steps.{begun, comma, shutAt, passAt, openAt, keptAt, opensAt, Ready, Turn};
 ghost use Rattle.writing.specs.Measures.{Stands, Measures};
-use answers::Answer;
 use crate::atoms;
 use crate::limits::Level;
+use answers::Answer;
 use table::Shape;
 
 // Where the next character comes from: a cell, or ")" at 0.

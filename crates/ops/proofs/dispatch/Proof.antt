@@ -1,5 +1,4 @@
 use borrow.Author.Needs.{needs}
-
 use mathlib.Core.Path.{_≡_, refl, sym, ap, _∙_}
 use borrow.Author.Tests.{ne-eqb, not-true, not-false}
 use native.Mathlib.Omega.{arith}

@@ -1,4 +1,3 @@
-
 use mathlib.Core.Path.{_≡_, refl, sym, ap, _∙_}
 use borrow.Author.Tests.{ne-eqb, not-true, not-false}
 use native.Mathlib.Omega.{arith}
@@ -22,7 +21,7 @@ is-code-requires c κs = search needs
 
 -- src/lib.rt:85:9
 returns : tie.Need-returns
-returns c =  λ v.
+returns c = λ v.
     let a = c .before .before .args in
     let o : Operation = operation (a .code) (a .a) (a .b) v in
     let n = holderCount (a .s) in
@@ -34,7 +33,7 @@ holders-requires c κs = search needs
 
 -- src/lib.rt:88:9
 returns-2 : tie.Need-returns-2
-returns-2 c =  λ v.
+returns-2 c = λ v.
     let a = c .before .before .before .before .args in
     let o : Operation = operation (a .code) (a .a) (a .b) v in
     let n = holderCount (a .s) in
@@ -46,7 +45,7 @@ uses-b-requires c κs = search needs
 
 -- src/lib.rt:91:9
 returns-3 : tie.Need-returns-3
-returns-3 c =  λ v.
+returns-3 c = λ v.
     let a = c .before .before .before .before .before .before .args in
     let o : Operation = operation (a .code) (a .a) (a .b) v in
     let n = holderCount (a .s) in
@@ -58,7 +57,7 @@ holders-requires-2 c κs = search needs
 
 -- src/lib.rt:94:9
 returns-4 : tie.Need-returns-4
-returns-4 c =  λ v.
+returns-4 c = λ v.
     let a = c .before .before .before .before .before .before .before .before .args in
     let o : Operation = operation (a .code) (a .a) (a .b) v in
     let n = holderCount (a .s) in
@@ -66,7 +65,7 @@ returns-4 c =  λ v.
 
 -- src/lib.rt:97:9
 returns-5 : tie.Need-returns-5
-returns-5 c =  λ v.
+returns-5 c = λ v.
     let a = c .before .before .before .before .before .before .before .before .before .args in
     let o : Operation = operation (a .code) (a .a) (a .b) v in
     let n = holderCount (a .s) in
@@ -74,7 +73,7 @@ returns-5 c =  λ v.
 
 -- src/lib.rt:81:1
 returns-6 : tie.Need-returns-6
-returns-6 c =  λ v.
+returns-6 c = λ v.
     let a = c .before .before .before .before .before .before .before .before .before .args in
     let o : Operation = operation (a .code) (a .a) (a .b) v in
     let n = holderCount (a .s) in

@@ -1,4 +1,3 @@
-
 use mathlib.Core.Path.{refl}
 use borrow.Author.Tests.{le-leb, lt-leb}
 use Rattle.ops.proofs.is_code.Statement.{statement}

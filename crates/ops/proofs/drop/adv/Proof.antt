@@ -1,4 +1,3 @@
-
 use borrow.Author.Tests.{leb-true, leb-false, not-true, not-false}
 use mathlib.Core.Path.{_≡_, refl, sym, _∙_}
 use mathlib.Core.Bool.{false, not, or-false}
@@ -42,7 +41,7 @@ same-length c = search needs
 
 -- src/drop.rt:20:9
 returns : tie.Need-returns
-returns c =  λ v.
+returns c = λ v.
     let c0 = c .before .before .before .before in
     let a = c0 .args in
     let p : Pool = view (a .s) (a .t .now) in
@@ -59,7 +58,7 @@ same-length-2 c = search needs
 
 -- src/drop.rt:23:9
 returns-2 : tie.Need-returns-2
-returns-2 c =  λ v.
+returns-2 c = λ v.
     let c0 = c .before .before .before .before .before .before .before in
     let a = c0 .args in
     let p : Pool = view (a .s) (a .t .now) in
@@ -87,7 +86,7 @@ same-length-3 c = search needs
 -- src/drop.rt:13:1
 returns-3 : tie.Need-returns-3
 unfolding effect
-returns-3 c =  λ v.
+returns-3 c = λ v.
     let c0 = c .before .before .before .before .before .before .before .before .before .before .before .before .before in
     let a = c0 .args in
     let p : Pool = view (a .s) (a .t .now) in

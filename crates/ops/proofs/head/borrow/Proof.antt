@@ -31,7 +31,7 @@ same-length c = search needs
 
 -- src/head.rt:66:9
 returns : tie.Need-returns
-returns c =  λ v.
+returns c = λ v.
     let c0 = c .before .before .before .before in
     let a = c0 .args in
     let p : Pool = view (a .s) (a .t .now) in
@@ -52,7 +52,7 @@ same-length-2 c = search needs
 -- src/head.rt:59:1
 returns-2 : tie.Need-returns-2
 unfolding effect
-returns-2 c =  λ v.
+returns-2 c = λ v.
     let c0 = c .before .before .before .before .before .before .before .before in
     let a = c0 .args in
     let p : Pool = view (a .s) (a .t .now) in

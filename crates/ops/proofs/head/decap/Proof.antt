@@ -1,4 +1,3 @@
-
 use Rattle.pool.specs.ScriptLaws.{own-head}
 use Prim.Native.Nat.{_≤_, _<_}
 use Rattle.pool.specs.Operations.{decap}
@@ -36,7 +35,7 @@ same-length c = search needs
 
 -- src/head.rt:46:9
 returns : tie.Need-returns
-returns c =  λ v.
+returns c = λ v.
     let c0 = c .before .before .before .before in
     let a = c0 .args in
     let p : Pool = view (a .s) (a .t .now) in
@@ -53,7 +52,7 @@ same-length-2 c = search needs
 
 -- src/head.rt:49:9
 returns-2 : tie.Need-returns-2
-returns-2 c =  λ v.
+returns-2 c = λ v.
     let c0 = c .before .before .before .before .before .before .before in
     let a = c0 .args in
     let p : Pool = view (a .s) (a .t .now) in
@@ -73,7 +72,7 @@ same-length-3 c = search needs
 
 -- src/head.rt:52:9
 returns-3 : tie.Need-returns-3
-returns-3 c =  λ v.
+returns-3 c = λ v.
     let c0 = c .before .before .before .before .before .before .before .before .before .before in
     let a = c0 .args in
     let p : Pool = view (a .s) (a .t .now) in
@@ -104,7 +103,7 @@ same-length-4 c = search needs
 -- src/head.rt:38:1
 returns-4 : tie.Need-returns-4
 unfolding effect
-returns-4 c =  λ v.
+returns-4 c = λ v.
     let c0 = c .before .before .before .before .before .before .before .before .before .before .before .before .before .before .before .before in
     let a = c0 .args in
     let p : Pool = view (a .s) (a .t .now) in

@@ -1,6 +1,4 @@
-
 use Rattle.pool.specs.ScriptLaws.{own-head}
-
 use Rattle.ops.specs.TestLaws.{refuses, does, is-null, is-occupied, is-shared, is-full, is-done, one, two, full, spare, none-needed, first-said}
 use Rattle.table.specs.ViewLaws.{itself}
 use mathlib.Core.Path.{_≡_, refl, sym, _∙_}
@@ -33,7 +31,7 @@ same-length c = search needs
 
 -- src/head.rt:79:9
 returns : tie.Need-returns
-returns c =  λ b v.
+returns c = λ b v.
     let c0 = c .before .before .before .before in
     let a = c0 .args in
     let p : Pool = view (a .s) (a .t .now) in
@@ -54,7 +52,7 @@ same-length-2 c = search needs
 -- src/head.rt:72:1
 returns-2 : tie.Need-returns-2
 unfolding effect
-returns-2 c =  λ b v.
+returns-2 c = λ b v.
     let c0 = c .before .before .before .before .before .before in
     let a = c0 .args in
     let p : Pool = view (a .s) (a .t .now) in

@@ -1,4 +1,3 @@
-
 use borrow.Author.Tests.{leb-true, leb-false, not-true, not-false}
 use mathlib.Core.Path.{_≡_, refl, sym, _∙_}
 use mathlib.Core.Bool.{false, not, or-false}
@@ -41,7 +40,7 @@ same-length c = search needs
 
 -- src/level.rt:20:9
 returns : tie.Need-returns
-returns c =  λ b v.
+returns c = λ b v.
     let c0 = c .before .before .before .before in
     let a = c0 .args in
     let p : Pool = view (a .s) (a .t .now) in
@@ -62,7 +61,7 @@ same-length-2 c = search needs
 -- src/level.rt:13:1
 returns-2 : tie.Need-returns-2
 unfolding effect
-returns-2 c =  λ b v.
+returns-2 c = λ b v.
     let c0 = c .before .before .before .before .before .before .before .before in
     let a = c0 .args in
     let p : Pool = view (a .s) (a .t .now) in

@@ -1,4 +1,3 @@
-
 use borrow.Author.Tests.{leb-true, leb-false, not-true, not-false}
 use mathlib.Core.Path.{_≡_, refl, sym, _∙_}
 use mathlib.Core.Bool.{false, not, or-false}
@@ -45,7 +44,7 @@ same-length c = search needs
 -- src/level.rt:59:1
 returns : tie.Need-returns
 unfolding effect
-returns c =  λ b v.
+returns c = λ b v.
     let c0 = c .before .before .before in
     let a = c0 .args in
     let p : Pool = view (a .s) (a .t .now) in

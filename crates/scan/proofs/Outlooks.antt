@@ -1,0 +1,52 @@
+-- The outlook of a scan goes on character by character.
+use Prim.Native.Nat.{ℕ, _+_, _-_, _<_}
+use mathlib.Core.Path.{_≡_, sym, ap, _∙_}
+use mathlib.Core.List.{List, _∷_, []}
+use mathlib.Core.Bool.{true}
+use native.Mathlib.Omega.{arith}
+use lib.ListN.{length, drop, getD}
+use Rattle.text.specs.Text.{Scan, Step, fault, State, at, refused, stepOf, settle, run, answer, refusal, digitAt}
+use Rattle.text.specs.Marks.{met, trace, begun}
+use Rattle.text.specs.ListText.{isDigit}
+use Rattle.text.specs.TextLaws.{rests-refused, digit-step}
+use Rattle.text.specs.MarkLaws.{begun-append, digit-met}
+use Rattle.scan.specs.Places.{Outlook, outlook}
+use Rattle.scan.proofs.RunLaws.{next, digit-bounds}
+
+pub goes : (k : ℕ) (s : Scan) (i b : ℕ) (l : List ℕ)
+    → outlook k (at s i) (b ∷ l) ≡ outlook (k + begun (met (at s i) b)) (settle (i + 1) (stepOf s b)) l
+goes k s i b l =
+    let st = settle (i + 1) (stepOf s b) in
+    let e : k + begun (trace (at s i) (b ∷ l)) ≡ k + begun (met (at s i) b) + begun (trace st l)
+    = omega (arith, begun-append (met (at s i) b) (trace st l)) in
+    ap (λ (n : ℕ). record { answered = answer (run st l); begins = n }) e
+
+-- at a place of a text
+pub turn : (text : List ℕ) (k : ℕ) (s : Scan) (i : ℕ) → i < length text
+    → outlook k (at s i) (drop i text)
+    ≡ outlook (k + begun (met (at s i) (getD text i 0))) (settle (i + 1) (stepOf s (getD text i 0))) (drop (i + 1) text)
+turn text k s i h = ap (outlook k (at s i)) (next text i h) ∙ goes k s i (getD text i 0) (drop (i + 1) text)
+
+-- a fault is the answer
+pub faulted : (k n : ℕ) (l : List ℕ) → (outlook k (refused n) l) .answered ≡ refusal n
+faulted k n l = ap answer (rests-refused n l)
+
+pub stops : (text : List ℕ) (k : ℕ) (s : Scan) (i n : ℕ) → i < length text → stepOf s (getD text i 0) ≡ fault n
+    → (outlook k (at s i) (drop i text)) .answered ≡ refusal n
+stops text k s i n h e =
+    let j = k + begun (met (at s i) (getD text i 0)) in
+    ap (λ (o : Outlook). o .answered) (turn text k s i h ∙ ap (λ (u : Step). outlook j (settle (i + 1) u) (drop (i + 1) text)) e)
+    ∙ faulted j n (drop (i + 1) text)
+
+-- a digit
+pub digit-goes : (s : Scan) (b : ℕ) → isDigit b ≡ true → stepOf s b ≡ digitAt s (b - 48)
+digit-goes s b d =
+    let q = digit-bounds b d in
+    let e : 48 + (b - 48) ≡ b = omega arith in
+    ap (stepOf s) (sym e) ∙ digit-step s (b - 48) (omega arith)
+
+pub digit-marks : (st : State) (b : ℕ) → isDigit b ≡ true → met st b ≡ []
+digit-marks st b d =
+    let q = digit-bounds b d in
+    let e : 48 + (b - 48) ≡ b = omega arith in
+    ap (met st) (sym e) ∙ digit-met st (b - 48) (omega arith)

@@ -1,0 +1,51 @@
+-- `atom`: each answer is the automaton's; a "," behind the first digit ends the run of digits.
+use borrow.Author.Needs.{needs}
+use Prim.Native.Nat.{_+_}
+use mathlib.Core.Path.{ap}
+use native.Mathlib.Omega.{arith}
+use lib.ListN.{getD}
+use Rattle.text.specs.ListText.{isDigit}
+use Rattle.scan.proofs.RunLaws.{run-out, run-stop}
+use Rattle.scan.proofs.Tokens.{taken-out, taken-comma, one-digit}
+use Rattle.scan.proofs.step.atom.Statement.{statement}
+use Rattle.scan.proofs.step.atom.Tie as tie
+
+add-second : tie.Need-add-second
+add-second c = search needs
+
+returns : tie.Need-returns
+returns c =
+    taken-out (c .before .before .before .args .text .now) (c .before .before .before .args .p) (c .before .before .before .pre .0) (c .before .before .before .pre .1) (c .before .before .before .args .p .at + 1) (omega (arith, run-out (c .before .before .before .args .text .now) (c .before .before .before .args .p .at + 1) (c .if1 .taken))) (one-digit (c .before .before .before .args .p .at) (getD (c .before .before .before .args .text .now) (c .before .before .before .args .p .at) 0)) (c .if1 .taken)
+
+shared-slice-read-if2 : tie.Need-shared-slice-read-if2
+shared-slice-read-if2 c = search needs
+
+add-t8 : tie.Need-add-t8
+add-t8 c = search needs
+
+add-t9 : tie.Need-add-t9
+add-t9 c = search needs
+
+returns-2 : tie.Need-returns-2
+returns-2 c =
+    taken-comma (c .before .before .before .before .before .before .args .text .now) (c .before .before .before .before .before .before .args .p) (c .before .before .before .before .before .before .pre .0) (c .before .before .before .before .before .before .pre .1) (c .before .before .before .before .before .before .args .p .at + 1) (omega (arith, run-stop (c .before .before .before .before .before .before .args .text .now) (c .before .before .before .before .before .before .args .p .at + 1) (c .before .before .before .if1 .left) (ap isDigit (c .before .if2 .taken)))) (one-digit (c .before .before .before .before .before .before .args .p .at) (getD (c .before .before .before .before .before .before .args .text .now) (c .before .before .before .before .before .before .args .p .at) 0))
+    (c .before .before .before .if1 .left) (c .before .if2 .taken)
+
+digits-requires : tie.Need-digits-requires
+digits-requires c κs = search needs
+
+returns-3 : tie.Need-returns-3
+returns-3 c = search needs
+
+pub atom-spec : {M : Type 1} → statement M
+atom-spec =
+    tie.close
+    (tie.spec
+    add-second
+    returns
+    shared-slice-read-if2
+    add-t8
+    add-t9
+    returns-2
+    digits-requires
+    returns-3)

@@ -1,0 +1,91 @@
+-- `digits`: each answer is the automaton's, over the digits and what follows them.
+use borrow.Author.Needs.{needs}
+use mathlib.Core.Path.{sym, _∙_}
+use native.Mathlib.Omega.{arith}
+use Rattle.scan.proofs.Tokens.{taken-long, taken-out, taken-comma, taken-other, taken-closed}
+use Rattle.scan.proofs.step.digits.Statement.{statement}
+use Rattle.scan.proofs.step.digits.Tie as tie
+
+add-run-end : tie.Need-add-run-end
+add-run-end c = search needs
+
+run-end-requires : tie.Need-run-end-requires
+run-end-requires c κs = search needs
+
+sub-too-long : tie.Need-sub-too-long
+sub-too-long c = search needs
+
+shared-slice-read-too-long : tie.Need-shared-slice-read-too-long
+shared-slice-read-too-long c = search needs
+
+too-long-requires : tie.Need-too-long-requires
+too-long-requires c κs = search needs
+
+returns : tie.Need-returns
+returns c = taken-long (c .before .before .before .before .before .args .text .now) (c .before .before .before .before .before .args .p) (c .before .before .before .before .before .pre .0) (c .before .before .before .before .before .pre .1) (c .before .before .before .run-end .result) (c .before .before .before .run-end .ensures) (sym (c .before .too-long .ensures) ∙ c .if1 .taken)
+
+returns-2 : tie.Need-returns-2
+returns-2 c = taken-out (c .before .before .before .before .before .before .args .text .now) (c .before .before .before .before .before .before .args .p) (c .before .before .before .before .before .before .pre .0) (c .before .before .before .before .before .before .pre .1) (c .before .before .before .before .run-end .result) (c .before .before .before .before .run-end .ensures) (sym (c .before .before .too-long .ensures) ∙ c .before .if1 .left) (c .if2 .taken)
+
+shared-slice-read-if3 : tie.Need-shared-slice-read-if3
+shared-slice-read-if3 c = search needs
+
+add-t11 : tie.Need-add-t11
+add-t11 c = search needs
+
+add-t12 : tie.Need-add-t12
+add-t12 c = search needs
+
+returns-3 : tie.Need-returns-3
+returns-3 c = taken-comma (c .before .before .before .before .before .before .before .before .before .args .text .now) (c .before .before .before .before .before .before .before .before .before .args .p) (c .before .before .before .before .before .before .before .before .before .pre .0) (c .before .before .before .before .before .before .before .before .before .pre .1) (c .before .before .before .before .before .before .before .run-end .result) (c .before .before .before .before .before .before .before .run-end .ensures) (sym (c .before .before .before .before .before .too-long .ensures) ∙ c .before .before .before .before .if1 .left) (c .before .before .before .if2 .left) (c .before .if3 .taken)
+
+shared-slice-read-if4 : tie.Need-shared-slice-read-if4
+shared-slice-read-if4 c = search needs
+
+returns-4 : tie.Need-returns-4
+returns-4 c = taken-other (c .before .before .before .before .before .before .before .before .before .before .args .text .now) (c .before .before .before .before .before .before .before .before .before .before .args .p) (c .before .before .before .before .before .before .before .before .before .before .pre .0) (c .before .before .before .before .before .before .before .before .before .before .pre .1) (c .before .before .before .before .before .before .before .before .run-end .result) (c .before .before .before .before .before .before .before .before .run-end .ensures) (sym (c .before .before .before .before .before .before .too-long .ensures) ∙ c .before .before .before .before .before .if1 .left) (c .before .before .before .before .if2 .left) (c .before .before .if3 .left) (c .if4 .taken)
+
+sub-closed : tie.Need-sub-closed
+sub-closed c = search needs
+
+add-closed : tie.Need-add-closed
+add-closed c = search needs
+
+add-closed-2 : tie.Need-add-closed-2
+add-closed-2 c = search needs
+
+closed-requires : tie.Need-closed-requires
+closed-requires c κs =
+    record {
+      some = omega arith;
+      within = omega (arith, c .before .before .before .before .before .before .if2 .left);
+      small = c .before .before .before .before .before .before .before .before .before .before .before .before .pre .0 .small;
+      levelled = omega (arith, c .before .before .before .before .before .before .before .before .before .before .before .before .pre .0 .levelled);
+      counted = omega (arith, c .before .before .before .before .before .before .before .before .before .before .before .before .pre .0 .counted, c .before .before .before .before .before .before .before .before .before .before .run-end .ensures);
+    }
+
+returns-5 : tie.Need-returns-5
+returns-5 c = taken-closed (c .before .before .before .before .before .before .before .before .before .before .before .before .before .args .text .now) (c .before .before .before .before .before .before .before .before .before .before .before .before .before .args .p) (c .before .before .before .before .before .before .before .before .before .before .before .before .before .pre .0) (c .before .before .before .before .before .before .before .before .before .before .before .before .before .pre .1) (c .before .before .before .before .before .before .before .before .before .before .before .run-end .result) (c .before .before .before .before .before .before .before .before .before .before .before .run-end .ensures) (sym (c .before .before .before .before .before .before .before .before .before .too-long .ensures) ∙ c .before .before .before .before .before .before .before .before .if1 .left) (c .before .before .before .before .before .before .before .if2 .left) (c .before .before .before .if4 .left) (c .closed .result) (c .closed .ensures)
+
+pub digits-spec : {M : Type 1} → statement M
+digits-spec =
+    tie.close
+    (tie.spec
+    add-run-end
+    run-end-requires
+    sub-too-long
+    shared-slice-read-too-long
+    too-long-requires
+    returns
+    returns-2
+    shared-slice-read-if3
+    add-t11
+    add-t12
+    returns-3
+    shared-slice-read-if4
+    returns-4
+    sub-closed
+    add-closed
+    add-closed-2
+    closed-requires
+    returns-5)

@@ -1,0 +1,48 @@
+-- What scan and check say of a text, in terms of the definitions.
+use Prim.Native.Nat.{ℕ, _-_, _%_, _<_, _≤_}
+use mathlib.Core.Path.{_≡_}
+use mathlib.Core.List.{List}
+use mathlib.Core.Bool.{cond}
+use lib.ListN.{length}
+use lib.Dec.{eqb}
+use Rattle.lists.specs.Lst.{extent}
+use Rattle.text.specs.Limits.{recordBytes, textMost}
+use Rattle.text.specs.Text as text
+use Rattle.text.specs.Text.{scanned}
+use Rattle.text.specs.Marks.{listIn}
+use Rattle.scan.specs.Places.{Outlook}
+use Rattle.scan.specs.declared.Scanned.{Scanned}
+use Rattle.scan.specs.declared.Answer.{Answer}
+
+-- a text that the scan may be lent
+pub record Sized (s : List ℕ) : Type 0 where
+  pub some : 0 < length s
+  pub small : length s ≤ textMost
+  pub whole : length s % recordBytes ≡ 0
+
+abbrev pub refusedScan : ℕ → Scanned
+refusedScan k = record { answer = k; taken = 0; extent = 0 }
+
+abbrev pub doneScan : ℕ → ℕ → Scanned
+doneScan n e = record { answer = 0; taken = n; extent = e }
+
+abbrev pub refusedAs : ℕ → Answer
+refusedAs k = record { no = k; taken = 0 }
+
+abbrev pub doneAs : ℕ → Answer
+doneAs n = record { no = 0; taken = n }
+
+abbrev pub answeredAs : text.Answer → Answer
+answeredAs a = record { no = a .no; taken = a .taken }
+
+-- the extent counts where the text is taken
+abbrev pub saying : text.Answer → ℕ → Scanned
+saying a e = record { answer = a .no; taken = a .taken; extent = cond (eqb (a .no) 0) e 0 }
+
+-- the outermost "(" begins no element
+abbrev pub told : Outlook → Scanned
+told o = saying (o .answered) (o .begins - 1)
+
+-- what scan says
+abbrev pub scannedAs : List ℕ → Scanned
+scannedAs s = saying (scanned s) (extent (listIn s))
