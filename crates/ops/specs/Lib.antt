@@ -1,5 +1,7 @@
 pub mod Replies
 pub mod Tests
+pub mod WordLaws
 pub mod TestLaws
+pub mod GivesLaws
 pub mod ReplyLaws
 pub mod Freed

@@ -1,9 +1,47 @@
 // The C boundary: every call to be had from C, each one line over the crate that does it. The header is include/tabeshilo.h.
+ghost use mathlib.Core.Path.{_≡_};
+ghost use Rattle.answers.specs.Answers.{outcome};
+ghost use Rattle.calls.specs.Run.{ran};
+ghost use Rattle.calls.specs.Write.{writeOut};
+ghost use Rattle.scripts.specs.Runs.{Runs};
 ghost use Rattle.setup.specs.SetUp.{SetUp, setUp};
+ghost use Rattle.text.specs.Text.{verdict};
+ghost use Rattle.writing.specs.Wrote.{wrote};
+use answers::Outcome;
 
 #[no_mangle]
 pub extern "C" fn tab_set_up(table: &mut [u32], cells: u32) -> u32
     ensures { λ r. ⌜ SetUp (setUp (now (table .entry)) cells) r (now (table .exit)) ⌝ }
 {
     setup::set_up(table, cells)
+}
+
+// count: operations done
+#[no_mangle]
+pub extern "C" fn tab_run(
+    table: &mut [u32],
+    work: &mut [u32],
+    script: &[u32],
+    results: &mut [u32],
+) -> Outcome
+    ensures { λ r. ⌜ Runs r (now (table .exit)) (now (work .exit)) (now (results .exit)) (ran (now (table .entry)) (now (work .entry)) (now (script .entry)) (now (results .entry))) ⌝ }
+{
+    scripts::run(table, work, script, results)
+}
+
+// count: bytes written
+#[no_mangle]
+pub extern "C" fn tab_write(table: &[u32], work: &mut [u32], holder: u32, out: &mut [u8]) -> Outcome
+    ensures { λ r. ⌜ wrote r (now (work .exit)) (now (out .exit)) ≡ writeOut (now (table .entry)) (now (work .entry)) holder (now (out .entry)) ⌝ }
+{
+    writing::write(table, work, holder, out)
+}
+
+// count: bytes taken
+#[no_mangle]
+pub extern "C" fn tab_check(text: &[u8]) -> Outcome
+    ensures { λ r. ⌜ r ≡ outcome (verdict (now (text .entry)) .no) (verdict (now (text .entry)) .taken) ⌝ }
+{
+    let a = scan::check(text);
+    Outcome::stopped(a.no, a.taken)
 }

@@ -1,29 +1,12 @@
+-- `ops::dispatch` meets its contract.
 use borrow.Author.Needs.{needs}
-use mathlib.Core.Path.{_≡_, refl, sym, ap, _∙_}
-use borrow.Author.Tests.{ne-eqb, not-true, not-false}
-use native.Mathlib.Omega.{arith}
+use mathlib.Core.Path.{_≡_, ap}
 use Rattle.pool.specs.Script.{usesB, Operation}
-use Rattle.pool.specs.Pool.{Pool}
-use Rattle.table.specs.View.{view, holderCount}
 use Rattle.ops.specs.Replies.{operation}
-use Rattle.ops.specs.TestLaws.{early-code, early-a, early-one, early-b, early-same, early-two, in-one, in-two, code-range, above, just, refuses, early-refused, early-passed}
+use Rattle.ops.specs.WordLaws.{in-one, in-two, code-range, above, just}
 use Rattle.ops.proofs.dispatch.Statement.{statement}
 use Rattle.ops.proofs.dispatch.Tie as tie
-use Rattle.ops.proofs.dispatch.Reads as reads
-use Rattle.ops.proofs.dispatch.Lts as lts
-use Rattle.ops.proofs.drop.adv.Reads as adv-reads
-use Rattle.ops.proofs.drop.erase.Reads as erase-reads
-use Rattle.ops.proofs.head.borrow.Reads as borrow-reads
-use Rattle.ops.proofs.head.decap.Reads as decap-reads
-use Rattle.ops.proofs.head.first.Reads as first-reads
-use Rattle.ops.proofs.head.pfa.Reads as pfa-reads
-use Rattle.ops.proofs.head.pfl.Reads as pfl-reads
-use Rattle.ops.proofs.level.cinv.Reads as cinv-reads
-use Rattle.ops.proofs.level.conc.Reads as conc-reads
-use Rattle.ops.proofs.level.inv.Reads as inv-reads
-use Rattle.ops.proofs.level.length.Reads as length-reads
 
--- src/lib.rt:111:22
 pfa-requires : tie.Need-pfa-requires
 pfa-requires c κs =
     let c0 = c .before .before .before in
@@ -31,7 +14,6 @@ pfa-requires c κs =
     let o : Operation = operation (a .code) (a .a) (a .b) (a .v) in
     (c0 .pre .0, (in-one (c0 .pre .0) o (c0 .pre .1 .1), c0 .pre .1 .0))
 
--- src/lib.rt:112:22
 pfl-requires : tie.Need-pfl-requires
 pfl-requires c κs =
     let c0 = c .before .before .before in
@@ -39,7 +21,6 @@ pfl-requires c κs =
     let o : Operation = operation (a .code) (a .a) (a .b) (a .v) in
     (c0 .pre .0, (in-two (c0 .pre .0) o (c0 .pre .1 .1) (ap usesB (c .before .match .keys2)), c0 .pre .1 .0))
 
--- src/lib.rt:113:24
 decap-requires : tie.Need-decap-requires
 decap-requires c κs =
     let c0 = c .before .before .before in
@@ -47,7 +28,6 @@ decap-requires c κs =
     let o : Operation = operation (a .code) (a .a) (a .b) (a .v) in
     (c0 .pre .0, (in-two (c0 .pre .0) o (c0 .pre .1 .1) (ap usesB (c .before .match .keys3)), c0 .pre .1 .0))
 
--- src/lib.rt:114:22
 adv-requires : tie.Need-adv-requires
 adv-requires c κs =
     let c0 = c .before .before .before in
@@ -55,7 +35,6 @@ adv-requires c κs =
     let o : Operation = operation (a .code) (a .a) (a .b) (a .v) in
     (c0 .pre .0, (in-two (c0 .pre .0) o (c0 .pre .1 .1) (ap usesB (c .before .match .keys4)), c0 .pre .1 .0))
 
--- src/lib.rt:115:25
 borrow-requires : tie.Need-borrow-requires
 borrow-requires c κs =
     let c0 = c .before .before .before in
@@ -63,7 +42,6 @@ borrow-requires c κs =
     let o : Operation = operation (a .code) (a .a) (a .b) (a .v) in
     (c0 .pre .0, (in-two (c0 .pre .0) o (c0 .pre .1 .1) (ap usesB (c .before .match .keys5)), c0 .pre .1 .0))
 
--- src/lib.rt:116:24
 erase-requires : tie.Need-erase-requires
 erase-requires c κs =
     let c0 = c .before .before .before in
@@ -71,7 +49,6 @@ erase-requires c κs =
     let o : Operation = operation (a .code) (a .a) (a .b) (a .v) in
     (c0 .pre .0, (in-one (c0 .pre .0) o (c0 .pre .1 .1), c0 .pre .1 .0))
 
--- src/lib.rt:117:22
 inv-requires : tie.Need-inv-requires
 inv-requires c κs =
     let c0 = c .before .before .before in
@@ -79,7 +56,6 @@ inv-requires c κs =
     let o : Operation = operation (a .code) (a .a) (a .b) (a .v) in
     (c0 .pre .0, (in-one (c0 .pre .0) o (c0 .pre .1 .1), c0 .pre .1 .0))
 
--- src/lib.rt:118:23
 cinv-requires : tie.Need-cinv-requires
 cinv-requires c κs =
     let c0 = c .before .before .before in
@@ -87,7 +63,6 @@ cinv-requires c κs =
     let o : Operation = operation (a .code) (a .a) (a .b) (a .v) in
     (c0 .pre .0, (in-two (c0 .pre .0) o (c0 .pre .1 .1) (ap usesB (c .before .match .keys8)), c0 .pre .1 .0))
 
--- src/lib.rt:119:23
 conc-requires : tie.Need-conc-requires
 conc-requires c κs =
     let c0 = c .before .before .before in
@@ -95,7 +70,6 @@ conc-requires c κs =
     let o : Operation = operation (a .code) (a .a) (a .b) (a .v) in
     (c0 .pre .0, (in-two (c0 .pre .0) o (c0 .pre .1 .1) (ap usesB (c .before .match .keys9)), c0 .pre .1 .0))
 
--- src/lib.rt:120:24
 first-requires : tie.Need-first-requires
 first-requires c κs =
     let c0 = c .before .before .before in
@@ -103,7 +77,6 @@ first-requires c κs =
     let o : Operation = operation (a .code) (a .a) (a .b) (a .v) in
     (c0 .pre .0, (in-one (c0 .pre .0) o (c0 .pre .1 .1), c0 .pre .1 .0))
 
--- src/lib.rt:121:14
 length-requires : tie.Need-length-requires
 length-requires c κs =
     let c0 = c .before .before .before in
@@ -111,131 +84,99 @@ length-requires c κs =
     let o : Operation = operation (a .code) (a .a) (a .b) (a .v) in
     (c0 .pre .0, (in-one (c0 .pre .0) o (c0 .pre .1 .1), c0 .pre .1 .0))
 
--- src/lib.rt:104:1
 same-length : tie.Need-same-length
 same-length c = search needs
 
--- src/lib.rt:104:1
 returns : tie.Need-returns
 returns c =
     let c0 = c .before .before .before .before .before .before in
     let a = c0 .args in
-    let o : Operation = operation (a .code) (a .a) (a .b) (a .v) in
     rw (c .before .before .before .before .match .keys1) (c .before .before .pfa .ensures (a .b))
 
--- src/lib.rt:104:1
 same-length-2 : tie.Need-same-length-2
 same-length-2 c = search needs
 
--- src/lib.rt:104:1
 returns-2 : tie.Need-returns-2
 returns-2 c =
     let c0 = c .before .before .before .before .before .before in
     let a = c0 .args in
-    let o : Operation = operation (a .code) (a .a) (a .b) (a .v) in
     rw (c .before .before .before .before .match .keys2) (c .before .before .pfl .ensures (a .v))
 
--- src/lib.rt:104:1
 same-length-3 : tie.Need-same-length-3
 same-length-3 c = search needs
 
--- src/lib.rt:104:1
 returns-3 : tie.Need-returns-3
 returns-3 c =
     let c0 = c .before .before .before .before .before .before in
     let a = c0 .args in
-    let o : Operation = operation (a .code) (a .a) (a .b) (a .v) in
     rw (c .before .before .before .before .match .keys3) (c .before .before .decap .ensures (a .v))
 
--- src/lib.rt:104:1
 same-length-4 : tie.Need-same-length-4
 same-length-4 c = search needs
 
--- src/lib.rt:104:1
 returns-4 : tie.Need-returns-4
 returns-4 c =
     let c0 = c .before .before .before .before .before .before in
     let a = c0 .args in
-    let o : Operation = operation (a .code) (a .a) (a .b) (a .v) in
     rw (c .before .before .before .before .match .keys4) (c .before .before .adv .ensures (a .v))
 
--- src/lib.rt:104:1
 same-length-5 : tie.Need-same-length-5
 same-length-5 c = search needs
 
--- src/lib.rt:104:1
 returns-5 : tie.Need-returns-5
 returns-5 c =
     let c0 = c .before .before .before .before .before .before in
     let a = c0 .args in
-    let o : Operation = operation (a .code) (a .a) (a .b) (a .v) in
     rw (c .before .before .before .before .match .keys5) (c .before .before .borrow .ensures (a .v))
 
--- src/lib.rt:104:1
 same-length-6 : tie.Need-same-length-6
 same-length-6 c = search needs
 
--- src/lib.rt:104:1
 returns-6 : tie.Need-returns-6
 returns-6 c =
     let c0 = c .before .before .before .before .before .before in
     let a = c0 .args in
-    let o : Operation = operation (a .code) (a .a) (a .b) (a .v) in
     rw (c .before .before .before .before .match .keys6) (c .before .before .erase .ensures (a .b) (a .v))
 
--- src/lib.rt:104:1
 same-length-7 : tie.Need-same-length-7
 same-length-7 c = search needs
 
--- src/lib.rt:104:1
 returns-7 : tie.Need-returns-7
 returns-7 c =
     let c0 = c .before .before .before .before .before .before in
     let a = c0 .args in
-    let o : Operation = operation (a .code) (a .a) (a .b) (a .v) in
     rw (c .before .before .before .before .match .keys7) (c .before .before .inv .ensures (a .b) (a .v))
 
--- src/lib.rt:104:1
 same-length-8 : tie.Need-same-length-8
 same-length-8 c = search needs
 
--- src/lib.rt:104:1
 returns-8 : tie.Need-returns-8
 returns-8 c =
     let c0 = c .before .before .before .before .before .before in
     let a = c0 .args in
-    let o : Operation = operation (a .code) (a .a) (a .b) (a .v) in
     rw (c .before .before .before .before .match .keys8) (c .before .before .cinv .ensures (a .v))
 
--- src/lib.rt:104:1
 same-length-9 : tie.Need-same-length-9
 same-length-9 c = search needs
 
--- src/lib.rt:104:1
 returns-9 : tie.Need-returns-9
 returns-9 c =
     let c0 = c .before .before .before .before .before .before in
     let a = c0 .args in
-    let o : Operation = operation (a .code) (a .a) (a .b) (a .v) in
     rw (c .before .before .before .before .match .keys9) (c .before .before .conc .ensures (a .v))
 
--- src/lib.rt:104:1
 same-length-10 : tie.Need-same-length-10
 same-length-10 c = search needs
 
--- src/lib.rt:104:1
 returns-10 : tie.Need-returns-10
 returns-10 c =
     let c0 = c .before .before .before .before .before .before in
     let a = c0 .args in
-    let o : Operation = operation (a .code) (a .a) (a .b) (a .v) in
     rw (c .before .before .before .before .match .keys10) (c .before .before .first .ensures (a .b) (a .v))
 
--- src/lib.rt:104:1
 same-length-11 : tie.Need-same-length-11
 same-length-11 c = search needs
 
--- src/lib.rt:104:1
 returns-11 : tie.Need-returns-11
 returns-11 c =
     let c0 = c .before .before .before .before .before .before in

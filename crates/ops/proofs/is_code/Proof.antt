@@ -1,15 +1,12 @@
+-- `ops::is_code` meets its contract.
 use mathlib.Core.Path.{refl}
 use borrow.Author.Tests.{le-leb, lt-leb}
 use Rattle.ops.proofs.is_code.Statement.{statement}
 use Rattle.ops.proofs.is_code.Tie as tie
-use Rattle.ops.proofs.is_code.Reads as reads
-use Rattle.ops.proofs.is_code.Lts as lts
 
--- src/lib.rt:65:9
 returns : tie.Need-returns
 returns c = rw (lt-leb 1 (c .before .args .code) (c .if1 .taken)) refl
 
--- src/lib.rt:61:1
 returns-2 : tie.Need-returns-2
 returns-2 c = rw (le-leb 1 (c .before .args .code) (c .if1 .left)) refl
 

@@ -1,35 +1,25 @@
-use Rattle.pool.specs.ScriptLaws.{own-head}
-use Rattle.ops.specs.TestLaws.{refuses, does, is-null, is-occupied, is-shared, is-full, is-done, one, two, full, spare, none-needed, first-said}
-use Rattle.table.specs.ViewLaws.{itself}
-use mathlib.Core.Path.{_≡_, refl, sym, _∙_}
-use mathlib.Core.Bool.{false, not, or-false}
-use mathlib.Core.Logic.{_≢_}
+-- `ops::head::borrow` meets its contract.
+use mathlib.Core.Path.{refl, sym, _∙_}
 use native.Mathlib.Omega.{arith}
-use borrow.Author.Tests.{eq-eqb, ne-eqb, lt-ltb, le-ltb}
-use Rattle.answers.specs.Answers.{NULL, OCCUPIED, SHARED, NO-ROOM}
-use Rattle.ops.specs.Replies.{operation}
-use Rattle.ops.specs.TestLaws.{refuses, does, is-null, is-occupied, is-shared, is-full, is-done, one, two, full, spare, none-needed}
-use Rattle.pool.specs.Pool.{Pool, countOf, holder, frees}
-use Rattle.pool.specs.Script.{PFA, PFL, DECAP, BORROW, FIRST, Operation, effect}
-use Rattle.table.specs.View.{view}
-use Rattle.cells.specs.Range.{holder-head}
+use borrow.Author.Tests.{eq-eqb, ne-eqb}
 use borrow.Author.Needs.{needs}
+use Rattle.ops.specs.GivesLaws.{refuses, does}
+use Rattle.ops.specs.TestLaws.{is-occupied, is-done, none-needed}
+use Rattle.ops.specs.WordLaws.{two}
+use Rattle.answers.specs.Answers.{OCCUPIED}
+use Rattle.ops.specs.Replies.{operation}
+use Rattle.pool.specs.Pool.{Pool, holder, frees}
+use Rattle.pool.specs.Script.{BORROW, Operation, effect}
+use Rattle.table.specs.View.{view}
 use Rattle.ops.proofs.head.borrow.Statement.{statement}
 use Rattle.ops.proofs.head.borrow.Tie as tie
-use Rattle.ops.proofs.head.borrow.Reads as reads
-use Rattle.ops.proofs.head.borrow.Lts as lts
-use Rattle.heads.proofs.borrow.Reads as borrow-reads
-use Rattle.table.proofs.holder_of.Reads as holder-of-reads
 
--- src/head.rt:65:8
 holder-of-requires : tie.Need-holder-of-requires
 holder-of-requires c κs = search needs
 
--- src/head.rt:66:9
 same-length : tie.Need-same-length
 same-length c = search needs
 
--- src/head.rt:66:9
 returns : tie.Need-returns
 returns c = λ v.
     let c0 = c .before .before .before .before in
@@ -38,18 +28,14 @@ returns c = λ v.
     let o : Operation = operation BORROW (a .a) (a .b) v in
     refuses o OCCUPIED (c0 .pre .0) (is-occupied p o (two (c0 .pre .0) o refl (c0 .pre .1 .0 .0) refl (c0 .pre .1 .0 .1) (c0 .pre .1 .0 .2)) refl (rw (ne-eqb (holder p (a .b)) 0 (λ q. c .if1 .taken (c .before .holder-of .ensures .0 ∙ q))) refl)) (omega arith)
 
--- src/head.rt:68:5
 borrow-requires : tie.Need-borrow-requires
 borrow-requires c κs =
     let c0 = c .before .before .before .before .before in
-    let a = c0 .args in
-    (c0 .pre .0, (c0 .pre .1 .0, ((c0 .pre .1 .1), sym (c .before .before .holder-of .ensures .0) ∙ c .before .if1 .left)))
+    (c0 .pre .0, (c0 .pre .1 .0, (c0 .pre .1 .1, sym (c .before .before .holder-of .ensures .0) ∙ c .before .if1 .left)))
 
--- src/head.rt:59:1
 same-length-2 : tie.Need-same-length-2
 same-length-2 c = search needs
 
--- src/head.rt:59:1
 returns-2 : tie.Need-returns-2
 unfolding effect
 returns-2 c = λ v.

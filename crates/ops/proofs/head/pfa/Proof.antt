@@ -1,35 +1,24 @@
-use Rattle.pool.specs.ScriptLaws.{own-head}
-use Rattle.ops.specs.TestLaws.{refuses, does, is-null, is-occupied, is-shared, is-full, is-done, one, two, full, spare, none-needed, first-said}
-use Rattle.table.specs.ViewLaws.{itself}
-use mathlib.Core.Path.{_≡_, refl, sym, _∙_}
-use mathlib.Core.Bool.{false, not, or-false}
-use mathlib.Core.Logic.{_≢_}
+-- `ops::head::pfa` meets its contract.
+use mathlib.Core.Path.{refl, sym, _∙_}
 use native.Mathlib.Omega.{arith}
-use borrow.Author.Tests.{eq-eqb, ne-eqb, lt-ltb, le-ltb}
-use Rattle.answers.specs.Answers.{NULL, OCCUPIED, SHARED, NO-ROOM}
-use Rattle.ops.specs.Replies.{operation}
-use Rattle.ops.specs.TestLaws.{refuses, does, is-null, is-occupied, is-shared, is-full, is-done, one, two, full, spare, none-needed}
-use Rattle.pool.specs.Pool.{Pool, countOf, holder, frees}
-use Rattle.pool.specs.Script.{PFA, PFL, DECAP, BORROW, FIRST, Operation, effect}
-use Rattle.table.specs.View.{view}
-use Rattle.cells.specs.Range.{holder-head}
 use borrow.Author.Needs.{needs}
+use Rattle.ops.specs.GivesLaws.{refuses, does}
+use Rattle.ops.specs.TestLaws.{is-full, is-done, full, spare}
+use Rattle.ops.specs.WordLaws.{one}
+use Rattle.answers.specs.Answers.{NO-ROOM}
+use Rattle.ops.specs.Replies.{operation}
+use Rattle.pool.specs.Pool.{Pool}
+use Rattle.pool.specs.Script.{PFA, Operation, effect}
+use Rattle.table.specs.View.{view}
 use Rattle.ops.proofs.head.pfa.Statement.{statement}
 use Rattle.ops.proofs.head.pfa.Tie as tie
-use Rattle.ops.proofs.head.pfa.Reads as reads
-use Rattle.ops.proofs.head.pfa.Lts as lts
-use Rattle.heads.proofs.prefix_atom.Reads as prefix-atom-reads
-use Rattle.table.proofs.free_head.Reads as free-head-reads
 
--- src/head.rt:18:8
 free-head-requires : tie.Need-free-head-requires
 free-head-requires c κs = search needs
 
--- src/head.rt:19:9
 same-length : tie.Need-same-length
 same-length c = search needs
 
--- src/head.rt:19:9
 returns : tie.Need-returns
 returns c = λ b.
     let c0 = c .before .before .before .before in
@@ -38,18 +27,14 @@ returns c = λ b.
     let o : Operation = operation PFA (a .a) b (a .v) in
     refuses o NO-ROOM (c0 .pre .0) (is-full p o (one (c0 .pre .0) o refl (c0 .pre .1 .0) refl) refl refl refl (full p (c0 .pre .1 .1) (sym (c .before .free-head .ensures .0) ∙ c .if1 .taken))) (omega arith)
 
--- src/head.rt:21:5
 prefix-atom-requires : tie.Need-prefix-atom-requires
 prefix-atom-requires c κs =
     let c0 = c .before .before .before .before .before in
-    let a = c0 .args in
-    (c0 .pre .0, (c0 .pre .1 .0, ((c0 .pre .1 .1), λ q. c .before .if1 .left (c .before .before .free-head .ensures .0 ∙ q))))
+    (c0 .pre .0, (c0 .pre .1 .0, (c0 .pre .1 .1, λ q. c .before .if1 .left (c .before .before .free-head .ensures .0 ∙ q))))
 
--- src/head.rt:12:1
 same-length-2 : tie.Need-same-length-2
 same-length-2 c = search needs
 
--- src/head.rt:12:1
 returns-2 : tie.Need-returns-2
 unfolding effect
 returns-2 c = λ b.

@@ -1,45 +1,27 @@
-use borrow.Author.Tests.{leb-true, leb-false, not-true, not-false}
-use mathlib.Core.Path.{_≡_, refl, sym, _∙_}
-use mathlib.Core.Bool.{false, not, or-false}
-use mathlib.Core.Logic.{_≢_}
+-- `ops::level::cinv` meets its contract.
+use borrow.Author.Tests.{leb-true, leb-false, not-true, not-false, eq-eqb, ne-eqb, lt-ltb, le-ltb}
+use mathlib.Core.Path.{refl, sym, _∙_}
 use native.Mathlib.Omega.{arith}
-use borrow.Author.Tests.{eq-eqb, ne-eqb, lt-ltb, le-ltb}
-use Rattle.answers.specs.Answers.{NULL, OCCUPIED, SHARED, NO-ROOM}
-use Rattle.ops.specs.Replies.{operation}
-use Rattle.ops.specs.TestLaws.{refuses, does, is-null, is-occupied, is-shared, is-full, is-done, one, two, full, spare, none-needed, first-said, conc-null}
-use Rattle.table.specs.ViewLaws.{itself}
-use Rattle.pool.specs.ScriptLaws.{own-head}
-use Rattle.pool.specs.Pool.{Pool, countOf, holder, frees}
-use Rattle.pool.specs.Script.{INV, CINV, CONC, LENGTH, ADV, ERASE, Operation, effect}
-use Rattle.table.specs.View.{view}
-use Rattle.cells.specs.Range.{holder-head}
-use Rattle.pool.specs.Operations.{erase, adv, lengthOf, sharedAt}
-use Rattle.ops.specs.Freed.{freed-few}
-use Rattle.ops.specs.declared.Reply.the-variants.{Done}
-use mathlib.Core.Path.{ap}
-use borrow.Author.Tests.{leb-true, leb-false}
-use lib.Dec.{leb}
-use mathlib.Core.Bool.{true}
-use Prim.Native.Nat.{_≤_, _<_}
-use lib.ListN.{length}
+use Prim.Native.Nat.{_≤_}
 use borrow.Author.Needs.{needs}
+use Rattle.answers.specs.Answers.{OCCUPIED, NO-ROOM}
+use Rattle.ops.specs.Replies.{operation}
+use Rattle.ops.specs.GivesLaws.{refuses, does}
+use Rattle.ops.specs.TestLaws.{is-occupied, is-full, is-done}
+use Rattle.ops.specs.WordLaws.{two}
+use Rattle.pool.specs.Pool.{Pool, holder, frees}
+use Rattle.pool.specs.Script.{CINV, Operation, effect}
+use Rattle.table.specs.View.{view}
+use Rattle.pool.specs.Operations.{lengthOf}
 use Rattle.ops.proofs.level.cinv.Statement.{statement}
 use Rattle.ops.proofs.level.cinv.Tie as tie
-use Rattle.ops.proofs.level.cinv.Reads as reads
-use Rattle.ops.proofs.level.cinv.Lts as lts
-use Rattle.levels.proofs.copy.copy_inverted.Reads as copy-inverted-reads
-use Rattle.levels.proofs.walk.fits.Reads as fits-reads
-use Rattle.table.proofs.holder_of.Reads as holder-of-reads
 
--- src/level.rt:32:8
 holder-of-requires : tie.Need-holder-of-requires
 holder-of-requires c κs = search needs
 
--- src/level.rt:33:9
 same-length : tie.Need-same-length
 same-length c = search needs
 
--- src/level.rt:33:9
 returns : tie.Need-returns
 returns c = λ v.
     let c0 = c .before .before .before .before in
@@ -48,15 +30,12 @@ returns c = λ v.
     let o : Operation = operation CINV (a .a) (a .b) v in
     refuses o OCCUPIED (c0 .pre .0) (is-occupied p o (two (c0 .pre .0) o refl (c0 .pre .1 .0 .0) refl (c0 .pre .1 .0 .1) (c0 .pre .1 .0 .2)) refl (rw (ne-eqb (holder p (a .b)) 0 (λ q. c .if1 .taken (c .before .holder-of .ensures .0 ∙ q))) refl)) (omega arith)
 
--- src/level.rt:35:9
 fits-requires : tie.Need-fits-requires
 fits-requires c κs = search needs
 
--- src/level.rt:36:9
 same-length-2 : tie.Need-same-length-2
 same-length-2 c = search needs
 
--- src/level.rt:36:9
 returns-2 : tie.Need-returns-2
 returns-2 c = λ v.
     let c0 = c .before .before .before .before .before .before .before in
@@ -65,19 +44,16 @@ returns-2 c = λ v.
     let o : Operation = operation CINV (a .a) (a .b) v in
     refuses o NO-ROOM (c0 .pre .0) (is-full p o (two (c0 .pre .0) o refl (c0 .pre .1 .0 .0) refl (c0 .pre .1 .0 .1) (c0 .pre .1 .0 .2)) refl (rw (eq-eqb (holder p (a .b)) 0 (sym (c .before .before .before .before .holder-of .ensures .0) ∙ c .before .before .before .if1 .left)) refl) refl (lt-ltb (frees (p .cells)) (lengthOf p (a .a)) (leb-false (lengthOf p (a .a)) (frees (p .cells)) (sym (c .before .fits2 .ensures) ∙ not-true _ (c .if2 .taken))))) (omega arith)
 
--- src/level.rt:38:5
 copy-inverted-requires : tie.Need-copy-inverted-requires
 copy-inverted-requires c κs =
     let c0 = c .before .before .before .before .before .before .before .before in
     let a = c0 .args in
     let p : Pool = view (a .s) (a .t .now) in
-    (c0 .pre .0, (c0 .pre .1 .0, ((c0 .pre .1 .1), (sym (c .before .before .before .before .before .holder-of .ensures .0) ∙ c .before .before .before .before .if1 .left, leb-true (lengthOf p (a .a)) (frees (p .cells)) (sym (c .before .before .fits2 .ensures) ∙ not-false _ (c .before .if2 .left))))))
+    (c0 .pre .0, (c0 .pre .1 .0, (c0 .pre .1 .1, (sym (c .before .before .before .before .before .holder-of .ensures .0) ∙ c .before .before .before .before .if1 .left, leb-true (lengthOf p (a .a)) (frees (p .cells)) (sym (c .before .before .fits2 .ensures) ∙ not-false _ (c .before .if2 .left))))))
 
--- src/level.rt:26:1
 same-length-3 : tie.Need-same-length-3
 same-length-3 c = search needs
 
--- src/level.rt:26:1
 returns-3 : tie.Need-returns-3
 unfolding effect
 returns-3 c = λ v.

@@ -1,45 +1,25 @@
-use borrow.Author.Tests.{leb-true, leb-false, not-true, not-false}
+-- `ops::level::conc` meets its contract.
+use borrow.Author.Tests.{eq-eqb, ne-eqb}
 use mathlib.Core.Path.{_≡_, refl, sym, _∙_}
-use mathlib.Core.Bool.{false, not, or-false}
-use mathlib.Core.Logic.{_≢_}
 use native.Mathlib.Omega.{arith}
-use borrow.Author.Tests.{eq-eqb, ne-eqb, lt-ltb, le-ltb}
-use Rattle.answers.specs.Answers.{NULL, OCCUPIED, SHARED, NO-ROOM}
-use Rattle.ops.specs.Replies.{operation}
-use Rattle.ops.specs.TestLaws.{refuses, does, is-null, is-occupied, is-shared, is-full, is-done, one, two, full, spare, none-needed, first-said, conc-null}
-use Rattle.table.specs.ViewLaws.{itself}
-use Rattle.pool.specs.ScriptLaws.{own-head}
-use Rattle.pool.specs.Pool.{Pool, countOf, holder, frees}
-use Rattle.pool.specs.Script.{INV, CINV, CONC, LENGTH, ADV, ERASE, Operation, effect}
-use Rattle.table.specs.View.{view}
-use Rattle.cells.specs.Range.{holder-head}
-use Rattle.pool.specs.Operations.{erase, adv, lengthOf, sharedAt}
-use Rattle.ops.specs.Freed.{freed-few}
-use Rattle.ops.specs.declared.Reply.the-variants.{Done}
-use mathlib.Core.Path.{ap}
-use borrow.Author.Tests.{leb-true, leb-false}
-use lib.Dec.{leb}
-use mathlib.Core.Bool.{true}
-use Prim.Native.Nat.{_≤_, _<_}
-use lib.ListN.{length}
 use borrow.Author.Needs.{needs}
+use Rattle.answers.specs.Answers.{SHARED}
+use Rattle.ops.specs.Replies.{operation}
+use Rattle.ops.specs.GivesLaws.{refuses, does, conc-null}
+use Rattle.ops.specs.TestLaws.{is-shared, is-done, none-needed}
+use Rattle.ops.specs.WordLaws.{two}
+use Rattle.pool.specs.Pool.{Pool, holder, frees}
+use Rattle.pool.specs.Script.{CONC, Operation, effect}
+use Rattle.table.specs.View.{view}
 use Rattle.ops.proofs.level.conc.Statement.{statement}
 use Rattle.ops.proofs.level.conc.Tie as tie
-use Rattle.ops.proofs.level.conc.Reads as reads
-use Rattle.ops.proofs.level.conc.Lts as lts
-use Rattle.levels.proofs.join.concatenate.Reads as concatenate-reads
-use Rattle.levels.proofs.walk.end_of.Reads as end-of-reads
-use Rattle.table.proofs.holder_of.Reads as holder-of-reads
 
--- src/level.rt:48:8
 holder-of-requires : tie.Need-holder-of-requires
 holder-of-requires c κs = search needs
 
--- src/level.rt:49:9
 same-length : tie.Need-same-length
 same-length c = search needs
 
--- src/level.rt:49:9
 returns : tie.Need-returns
 unfolding effect
 returns c = λ v.
@@ -50,15 +30,12 @@ returns c = λ v.
     let e : holder p (a .b) ≡ 0 = sym (c .before .holder-of .ensures .0) ∙ c .if1 .taken in
     does p o (is-done p o (two (c0 .pre .0) o refl (c0 .pre .1 .0 .0) refl (c0 .pre .1 .0 .1) (c0 .pre .1 .0 .2)) refl refl (rw (eq-eqb (holder p (a .b)) 0 e) refl) (none-needed (frees (p .cells)))) (record { table = c0 .pre .0; is = sym (conc-null p (a .a) (a .b) e) }) refl
 
--- src/level.rt:51:9
 end-of-requires : tie.Need-end-of-requires
 end-of-requires c κs = search needs
 
--- src/level.rt:53:9
 same-length-2 : tie.Need-same-length-2
 same-length-2 c = search needs
 
--- src/level.rt:53:9
 returns-2 : tie.Need-returns-2
 returns-2 c = λ v.
     let c0 = c .before .before .before .before .before .before .before in
@@ -67,18 +44,14 @@ returns-2 c = λ v.
     let o : Operation = operation CONC (a .a) (a .b) v in
     refuses o SHARED (c0 .pre .0) (is-shared p o (two (c0 .pre .0) o refl (c0 .pre .1 .0 .0) refl (c0 .pre .1 .0 .1) (c0 .pre .1 .0 .2)) refl refl (rw (ne-eqb (holder p (a .b)) 0 (λ q. c .before .before .before .if1 .left (c .before .before .before .before .holder-of .ensures .0 ∙ q))) (sym (c .before .end-of .ensures .0) ∙ c .if2 .taken))) (omega arith)
 
--- src/level.rt:55:5
 concatenate-requires : tie.Need-concatenate-requires
 concatenate-requires c κs =
     let c0 = c .before .before .before .before .before .before .before .before in
-    let a = c0 .args in
-    (c0 .pre .0, (c0 .pre .1 .0, ((c0 .pre .1 .1), λ n. (sym (c .before .before .end-of .ensures .0) ∙ c .before .if2 .left, c .before .before .end-of .ensures .1 (c .before .if2 .left)))))
+    (c0 .pre .0, (c0 .pre .1 .0, (c0 .pre .1 .1, λ n. (sym (c .before .before .end-of .ensures .0) ∙ c .before .if2 .left, c .before .before .end-of .ensures .1 (c .before .if2 .left)))))
 
--- src/level.rt:42:1
 same-length-3 : tie.Need-same-length-3
 same-length-3 c = search needs
 
--- src/level.rt:42:1
 returns-3 : tie.Need-returns-3
 unfolding effect
 returns-3 c = λ v.

@@ -1,0 +1,77 @@
+-- Demand 1: a call refuses what the rows name, with the number of its first row, and nothing besides; what was lent to a refused call stays;
+-- and a script ends where an operation is refused, all before it done.
+use mathlib.Core.Path.{_≡_}
+use mathlib.Core.Logic.{_≢_}
+use mathlib.Core.List.{List, [], _∷_, _++_}
+use Prim.Native.Nat.{ℕ, suc}
+use Rattle.answers.specs.Answers.{DONE}
+use Rattle.pool.specs.Script.{Operation}
+use Rattle.calls.specs.Entry.{shown, over}
+use Rattle.calls.specs.Run.{Ran, operations}
+use Rattle.promises.specs.Engine.{Engine}
+use Rattle.promises.specs.Rows.{First, Answers, None}
+use Rattle.promises.specs.Grounds.{setUpRows, runRows, operationRows}
+use Rattle.promises.specs.TextGrounds.{readRows, writeRows, checkRows}
+
+-- four words of a script
+abbrev pub wordsOf : Operation → List ℕ
+wordsOf o = o .code ∷ o .a ∷ o .b ∷ o .v ∷ []
+
+-- what the engine makes of a script of one operation
+abbrev pub alone : Engine → List ℕ → List ℕ → Operation → Ran
+alone E ws ts o = E .run ts ws (wordsOf o) (0 ∷ 0 ∷ [])
+
+-- from the table ts the operations give this answer, this number of them done, this table and these results:
+-- each is answered by its rows, and one that is refused ends it
+pub data Stops (E : Engine) (ws : List ℕ) : List ℕ → List Operation → ℕ → ℕ → List ℕ → List ℕ → Type 0 where
+  end : {ts : List ℕ} → Stops E ws ts [] DONE 0 ts []
+  refused : {ts : List ℕ} {o : Operation} {os : List Operation} {n : ℕ} → Answers (operationRows (shown ts) o) n → n ≢ DONE → Stops E ws ts (o ∷ os) n 0 ts []
+  done : {ts us qs : List ℕ} {o : Operation} {os : List Operation} {n k : ℕ} → Answers (operationRows (shown ts) o) DONE
+      → Stops E ws (alone E ws ts o .table) os n k us qs → Stops E ws ts (o ∷ os) n (suc k) us (alone E ws ts o .results ++ qs)
+
+-- the answer of each call is that of its rows
+abbrev pub SetUpRefusals : Engine → Type 0
+SetUpRefusals E = (ts : List ℕ) (n : ℕ) → Answers (setUpRows ts n) (E .setUp ts n .answer)
+
+abbrev pub RunRefusals : Engine → Type 0
+RunRefusals E = (ts ws ss rs : List ℕ) → First (runRows ts ws ss rs) (λ n. Unit {0}) (E .run ts ws ss rs .answer)
+
+abbrev pub ReadRefusals : Engine → Type 0
+ReadRefusals E = (ts ws : List ℕ) (h : ℕ) (xs : List ℕ) → Answers (readRows ts ws h xs) (E .read ts ws h xs .answer)
+
+abbrev pub WriteRefusals : Engine → Type 0
+WriteRefusals E = (ts ws : List ℕ) (h : ℕ) (out : List ℕ) → Answers (writeRows ts ws h out) (E .write ts ws h out .answer)
+
+abbrev pub CheckRefusals : Engine → Type 0
+CheckRefusals E = (xs : List ℕ) → Answers (checkRows xs) (E .check xs .no)
+
+-- after a refusal table, results and output are as they were; the text is only read
+abbrev pub RefusedSetUp : Engine → Type 0
+RefusedSetUp E = (ts : List ℕ) (n : ℕ) → E .setUp ts n .answer ≢ DONE → E .setUp ts n .table ≡ ts
+
+abbrev pub RefusedRun : Engine → Type 0
+RefusedRun E = (ts ws ss rs : List ℕ) → (None (runRows ts ws ss rs) → ⊥) → let r = E .run ts ws ss rs in (r .table ≡ ts) × (r .results ≡ rs) × (r .count ≡ 0)
+
+abbrev pub RefusedRead : Engine → Type 0
+RefusedRead E = (ts ws : List ℕ) (h : ℕ) (xs : List ℕ) → let r = E .read ts ws h xs in r .answer ≢ DONE → (r .table ≡ ts) × (r .count ≡ 0)
+
+abbrev pub RefusedWrite : Engine → Type 0
+RefusedWrite E = (ts ws : List ℕ) (h : ℕ) (out : List ℕ) → let r = E .write ts ws h out in r .answer ≢ DONE → (r .output ≡ out) × (r .count ≡ 0)
+
+-- a script that passes its first rows is its operations one by one, up to one that is refused
+abbrev pub ScriptsStop : Engine → Type 0
+ScriptsStop E =
+    (ts ws ss rs : List ℕ) → None (runRows ts ws ss rs) → let r = E .run ts ws ss rs in
+    (qs : List ℕ) × Stops E ws ts (operations ss) (r .answer) (r .count) (r .table) qs × (r .results ≡ over qs rs)
+
+pub record Demand1 (E : Engine) : Type 0 where
+  pub set-up-refusals : SetUpRefusals E
+  pub run-refusals : RunRefusals E
+  pub read-refusals : ReadRefusals E
+  pub write-refusals : WriteRefusals E
+  pub check-refusals : CheckRefusals E
+  pub refused-set-up : RefusedSetUp E
+  pub refused-run : RefusedRun E
+  pub refused-read : RefusedRead E
+  pub refused-write : RefusedWrite E
+  pub scripts-stop : ScriptsStop E

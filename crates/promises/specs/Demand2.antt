@@ -1,0 +1,117 @@
+-- Demand 2: after whatever is done the holders have the lists of the report's machine, however the cells are shared; reading and writing
+-- keep to the text form, and each undoes the other.
+use mathlib.Core.Path.{_≡_}
+use mathlib.Core.Logic.{_≢_}
+use mathlib.Core.Bool.{false}
+use mathlib.Core.List.{List, _++_}
+use Prim.Native.Nat.{ℕ, _*_, _%_, _≤_, _<_, _^_}
+use lib.ListN.{length, getD, take, replicate}
+use Rattle.answers.specs.Answers.{DONE}
+use Rattle.lists.specs.Lst.{Lst, order, extent}
+use Rattle.pool.specs.Tally.{occ}
+use Rattle.pool.specs.Pool.{holder, frees, Sound}
+use Rattle.pool.specs.Script.{Operation}
+use Rattle.table.specs.Limits.{holdersMost}
+use Rattle.text.specs.Limits.{levels, recordBytes}
+use Rattle.text.specs.ListText.{textOf, fill, bare}
+use Rattle.text.specs.Writing.{usable}
+use Rattle.calls.specs.Entry.{shown, over}
+use Rattle.calls.specs.Run.{operations}
+use Rattle.promises.specs.Engine.{Engine}
+use Rattle.promises.specs.Grounds.{BadTable, cellsTold}
+use Rattle.promises.specs.TextGrounds.{Has}
+use Rattle.promises.specs.Machine.{Lists, assign, turn, says, turnAll, Says}
+use Rattle.promises.specs.Demand1.{wordsOf}
+
+-- the holders of a table have these lists
+abbrev pub Holds : List ℕ → Lists → Type 0
+Holds ts m = (i : ℕ) → Has ts i (m i)
+
+-- the text of a list with its last record filled
+abbrev pub filled : List ℕ → List ℕ
+filled t = t ++ fill (length t)
+
+-- a text with leading zeros dropped (and blanks, where it has any)
+abbrev pub plain : List ℕ → List ℕ
+plain t = bare false t
+
+-- m bytes of a text, whole records: the characters t of a list, with no blank among them, and fewer than a record of blanks behind them
+pub record Records (xs : List ℕ) (m : ℕ) (t : List ℕ) : Type 0 where
+  pub blanks : ℕ
+  pub bytes : take m xs ≡ t ++ replicate blanks 32
+  pub few : blanks < recordBytes
+  pub whole : m % recordBytes ≡ 0
+  pub within : m ≤ length xs
+  pub solid : occ t 32 ≡ 0
+
+-- words of 32 bits
+abbrev pub Words : List ℕ → Type 0
+Words ts = (i : ℕ) → getD ts i 0 < 2 ^ 32
+
+-- a sound table lent with work space enough
+pub record Ready (ts ws : List ℕ) : Type 0 where
+  pub table : BadTable ts → ⊥
+  pub work : 2 * cellsTold ts ≤ length ws
+  pub sound : Sound (shown ts)
+
+-- an operation that is done
+abbrev pub OperationsGive : Engine → Type 0
+OperationsGive E =
+    (ts ws rs : List ℕ) (o : Operation) (m : Lists) → Holds ts m → let r = E .run ts ws (wordsOf o) rs in
+    r .answer ≡ DONE → Holds (r .table) (turn m o) × ((n : ℕ) × (r .results ≡ over (says m o n) rs))
+
+-- holders that it does not name
+abbrev pub OthersStay : Engine → Type 0
+OthersStay E =
+    (ts ws rs : List ℕ) (o : Operation) (m : Lists) → Holds ts m → let r = E .run ts ws (wordsOf o) rs in
+    r .answer ≡ DONE → (i : ℕ) → i ≢ o .a → i ≢ o .b → Has (r .table) i (m i)
+
+-- a whole script, up to where it stops
+abbrev pub ScriptsGive : Engine → Type 0
+ScriptsGive E =
+    (ts ws ss rs : List ℕ) (m : Lists) → Holds ts m → let r = E .run ts ws ss rs in
+    let os = take (r .count) (operations ss) in
+    Holds (r .table) (turnAll m os) × ((qs : List ℕ) × Says m os qs × (r .results ≡ over qs rs))
+
+-- reading gives the list of the text, and the bytes taken; so does the text check
+abbrev pub ReadingGives : Engine → Type 0
+ReadingGives E =
+    (ts ws : List ℕ) (h : ℕ) (xs : List ℕ) (m : Lists) → Holds ts m → let r = E .read ts ws h xs in
+    r .answer ≡ DONE → (l : Lst) × (t : List ℕ) × Records xs (r .count) t × (textOf l ≡ plain t) × Holds (r .table) (assign m h l)
+
+abbrev pub CheckingGives : Engine → Type 0
+CheckingGives E = (xs : List ℕ) → let r = E .check xs in r .no ≡ DONE → (l : Lst) × (t : List ℕ) × Records xs (r .taken) t × (textOf l ≡ plain t)
+
+-- writing gives the text of the list, and the bytes written
+abbrev pub WritingGives : Engine → Type 0
+WritingGives E =
+    (ts ws : List ℕ) (h : ℕ) (out : List ℕ) (l : Lst) → Has ts h l → let r = E .write ts ws h out in
+    r .answer ≡ DONE → (r .output ≡ over (filled (textOf l)) out) × (r .count ≡ length (filled (textOf l)))
+
+-- a list that is written is read again as itself, if the output takes its text and the pool has its cells
+abbrev pub WrittenReadsBack : Engine → Type 0
+WrittenReadsBack E =
+    (ts ws out us vs : List ℕ) (h k : ℕ) (l : Lst) → Words ts → Ready ts ws → h < holdersMost → Has ts h l
+    → order l ≤ levels → length (textOf l) ≤ usable (length out)
+    → Ready us vs → k < holdersMost → holder (shown us) k ≡ 0 → extent l ≤ frees (shown us .cells)
+    → let w = E .write ts ws h out in
+    let r = E .read us vs k (take (w .count) (w .output)) in
+    (w .answer ≡ DONE) × (r .answer ≡ DONE) × (r .count ≡ w .count) × Has (r .table) k l
+
+-- a text that is read is written again without its leading zeros, and filled anew
+abbrev pub ReadWritesBack : Engine → Type 0
+ReadWritesBack E =
+    (ts ws vs out : List ℕ) (h : ℕ) (xs t : List ℕ) → let r = E .read ts ws h xs in
+    r .answer ≡ DONE → Records xs (r .count) t → 2 * cellsTold ts ≤ length vs → r .count ≤ length out
+    → let w = E .write (r .table) vs h out in
+    (w .answer ≡ DONE) × (w .output ≡ over (filled (plain t)) out)
+
+pub record Demand2 (E : Engine) : Type 0 where
+  pub operations-give : OperationsGive E
+  pub others-stay : OthersStay E
+  pub scripts-give : ScriptsGive E
+  pub reading-gives : ReadingGives E
+  pub checking-gives : CheckingGives E
+  pub writing-gives : WritingGives E
+  pub written-reads-back : WrittenReadsBack E
+  pub read-writes-back : ReadWritesBack E

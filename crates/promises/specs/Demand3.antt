@@ -1,0 +1,99 @@
+-- Demand 3, about all tables that an engine's own calls can make: counts and arrows, no rings, free cells and reached ones, what ERASE frees
+-- and says, and where there is no room.
+use mathlib.Core.Path.{_≡_}
+use mathlib.Core.Logic.{_≢_, _⊎_, _↔_}
+use mathlib.Core.List.{List, [], _∷_}
+use Prim.Native.Nat.{ℕ, suc, _+_, _≤_, _<_}
+use lib.ListN.{length, getD}
+use Rattle.answers.specs.Answers.{DONE, NO-ROOM}
+use Rattle.lists.specs.Lst.{Lst, extent}
+use Rattle.pool.specs.Tally.{occ}
+use Rattle.pool.specs.Pool.{Pool, countOf, holder, InPool, Walk, Chain}
+use Rattle.pool.specs.Held.{into}
+use Rattle.pool.specs.Number.{Number}
+use Rattle.pool.specs.SoundLaws.{Reaches}
+use Rattle.pool.specs.Script.{ERASE, Operation}
+use Rattle.table.specs.Limits.{holdersMost}
+use Rattle.text.specs.Marks.{listIn}
+use Rattle.calls.specs.Entry.{shown}
+use Rattle.promises.specs.Engine.{Engine, Reached}
+use Rattle.promises.specs.Rows.{None}
+use Rattle.promises.specs.Grounds.{NoHolder, BadWork, Needs, beforeRoom}
+use Rattle.promises.specs.TextGrounds.{Has, sizeRows, faultRows}
+use Rattle.promises.specs.Demand1.{wordsOf}
+
+-- the arrows that end at a cell: of holders, and of cells that are not free
+abbrev pub arrows : Pool → ℕ → ℕ
+arrows p c = occ (p .holders) c + into (p .cells) c
+
+-- c is on the free chain
+abbrev pub Free : Pool → ℕ → Type 0
+Free p c = (fs : List ℕ) × Chain (p .cells) (p .free) fs × (0 < occ fs c)
+
+-- some holder reaches c
+abbrev pub Used : Pool → ℕ → Type 0
+Used p c = (h : ℕ) × (h < holdersMost) × Reaches p h c
+
+-- holder a reaches c and no other holder does
+abbrev pub OnlyBy : Pool → ℕ → ℕ → Type 0
+OnlyBy p a c = Reaches p a c × ((i : ℕ) → i ≢ a → Reaches p i c → ⊥)
+
+-- ERASE of holder a; what else its four words hold is not looked at
+abbrev pub erasing : ℕ → ℕ → ℕ → List ℕ
+erasing a b v = ERASE ∷ a ∷ b ∷ v ∷ []
+
+abbrev pub CountsAreArrows : Engine → Type 0
+CountsAreArrows E = (ts : List ℕ) → Reached E ts → (c : ℕ) → InPool (shown ts .cells) c → countOf (shown ts .cells) c ≡ arrows (shown ts) c
+
+abbrev pub NoListContainsItself : Engine → Type 0
+NoListContainsItself E = (ts : List ℕ) → Reached E ts → (c n : ℕ) → Walk (shown ts .cells) (suc n) c c → ⊥
+
+-- so each holder has a list
+abbrev pub HoldersHaveLists : Engine → Type 0
+HoldersHaveLists E = (ts : List ℕ) → Reached E ts → (h : ℕ) → (l : Lst) × Has ts h l
+
+abbrev pub FreeOrReached : Engine → Type 0
+FreeOrReached E = (ts : List ℕ) → Reached E ts → (c : ℕ) → InPool (shown ts .cells) c → Free (shown ts) c ⊎ Used (shown ts) c
+
+abbrev pub NeverBoth : Engine → Type 0
+NeverBoth E = (ts : List ℕ) → Reached E ts → (c : ℕ) → InPool (shown ts .cells) c → Free (shown ts) c → Used (shown ts) c → ⊥
+
+-- what becomes free with ERASE: the cells that only this holder reached; and its number counts them
+abbrev pub EraseFrees : Engine → Type 0
+EraseFrees E =
+    (ts ws rs : List ℕ) (a b v : ℕ) → Reached E ts → let r = E .run ts ws (erasing a b v) rs in
+    r .answer ≡ DONE → (c : ℕ) → InPool (shown ts .cells) c → ((Free (shown ts) c → ⊥) × Free (shown (r .table)) c) ↔ OnlyBy (shown ts) a c
+
+abbrev pub EraseCounts : Engine → Type 0
+EraseCounts E =
+    (ts ws rs : List ℕ) (a b v : ℕ) → Reached E ts → let r = E .run ts ws (erasing a b v) rs in
+    r .answer ≡ DONE → (getD (r .results) 0 0 ≡ 2) × Number (OnlyBy (shown ts) a) (length (shown ts .cells)) (getD (r .results) 1 0)
+
+-- the cells reached can be counted
+abbrev pub ReachedCounted : Engine → Type 0
+ReachedCounted E = (ts : List ℕ) → Reached E ts → (k : ℕ) × Number (Used (shown ts)) (length (shown ts .cells)) k
+
+-- where all rows before it are passed, NO ROOM tells that reached and needed cells are together more than there are
+abbrev pub NoRoomToPerform : Engine → Type 0
+NoRoomToPerform E =
+    (ts ws rs : List ℕ) (o : Operation) (k n : ℕ) → Reached E ts → (BadWork ts ws → ⊥) → 2 ≤ length rs → None (beforeRoom (shown ts) o)
+    → Number (Used (shown ts)) (length (shown ts .cells)) k → Needs (shown ts) o n
+    → (E .run ts ws (wordsOf o) rs .answer ≡ NO-ROOM) ↔ (length (shown ts .cells) < k + n)
+
+abbrev pub NoRoomToRead : Engine → Type 0
+NoRoomToRead E =
+    (ts ws : List ℕ) (h : ℕ) (xs : List ℕ) (k : ℕ) → Reached E ts → (BadWork ts ws → ⊥) → (NoHolder h → ⊥) → None (sizeRows xs) → holder (shown ts) h ≡ 0 → None (faultRows xs)
+    → Number (Used (shown ts)) (length (shown ts .cells)) k
+    → (E .read ts ws h xs .answer ≡ NO-ROOM) ↔ (length (shown ts .cells) < k + extent (listIn xs))
+
+pub record Demand3 (E : Engine) : Type 0 where
+  pub counts-are-arrows : CountsAreArrows E
+  pub no-list-contains-itself : NoListContainsItself E
+  pub holders-have-lists : HoldersHaveLists E
+  pub free-or-reached : FreeOrReached E
+  pub never-both : NeverBoth E
+  pub erase-frees : EraseFrees E
+  pub erase-counts : EraseCounts E
+  pub reached-counted : ReachedCounted E
+  pub no-room-to-perform : NoRoomToPerform E
+  pub no-room-to-read : NoRoomToRead E

@@ -1,0 +1,33 @@
+-- An engine's calls as functions on words, and ours. A demand is a statement about any engine.
+use mathlib.Core.Path.{_≡_}
+use mathlib.Core.List.{List}
+use Prim.Native.Nat.{ℕ}
+use Rattle.answers.specs.Answers.{DONE}
+use Rattle.text.specs.Text.{Answer, verdict}
+use Rattle.setup.specs.SetUp.{Given, setUp}
+use Rattle.calls.specs.Run.{Ran, ran}
+use Rattle.calls.specs.Read.{Read, readIn}
+use Rattle.calls.specs.Write.{Write, writeOut}
+
+-- what each call gives: its answer, its number, and the lent words afterwards
+pub record Engine : Type 0 where
+  -- the table's words, the number of cells
+  pub setUp : List ℕ → ℕ → Given
+  -- table, work space, script, results
+  pub run : List ℕ → List ℕ → List ℕ → List ℕ → Ran
+  -- table, work space, holder, text
+  pub read : List ℕ → List ℕ → ℕ → List ℕ → Read
+  -- table, work space, holder, output
+  pub write : List ℕ → List ℕ → ℕ → List ℕ → Write
+  -- text
+  pub check : List ℕ → Answer
+
+abbrev pub ours : Engine
+ours = record { setUp = setUp; run = ran; read = readIn; write = writeOut; check = verdict }
+
+-- the tables that an engine's calls can make, from a set-up that is done on, whatever the arguments and the answers
+pub data Reached (E : Engine) : List ℕ → Type 0 where
+  made : (ts : List ℕ) (n : ℕ) → E .setUp ts n .answer ≡ DONE → Reached E (E .setUp ts n .table)
+  setAgain : {ts : List ℕ} (n : ℕ) → Reached E ts → Reached E (E .setUp ts n .table)
+  ranOn : {ts : List ℕ} (ws ss rs : List ℕ) → Reached E ts → Reached E (E .run ts ws ss rs .table)
+  readInto : {ts : List ℕ} (ws : List ℕ) (h : ℕ) (xs : List ℕ) → Reached E ts → Reached E (E .read ts ws h xs .table)

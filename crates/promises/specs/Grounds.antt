@@ -1,0 +1,131 @@
+-- When each answer is given, in document 01's words: the rows of setting up, of a script run and of an operation, in the order of their checks.
+use mathlib.Core.Path.{_≡_}
+use mathlib.Core.Logic.{_≢_, _⊎_}
+use mathlib.Core.List.{List, [], _∷_, _++_}
+use Prim.Native.Nat.{ℕ, zero, suc, _*_, _/_, _%_, _≤_, _<_}
+use lib.ListN.{length, getD}
+use Rattle.answers.specs.Answers.{TABLE-SIZE, WORK-SPACE, SCRIPT, RESULTS, UNSOUND, CODE, HOLDER, SAME, NULL, OCCUPIED, SHARED, NO-ROOM}
+use Rattle.lists.specs.Lst.{Lst, len}
+use Rattle.pool.specs.Pool.{Cell, Pool, countOf, nextOf, holder, ListAt, frees, Sound}
+use Rattle.pool.specs.Script.{PFA, PFL, DECAP, ADV, BORROW, INV, CINV, CONC, FIRST, LENGTH, Operation}
+use Rattle.table.specs.Limits.{cellsMost, holdersMost, tableWords}
+use Rattle.calls.specs.Entry.{shown}
+use Rattle.calls.specs.Run.{operationsMost}
+use Rattle.promises.specs.Rows.{Row, row, OneOf}
+
+-- n cells in k words: n outside 1 to 4,000, or a length other than 66 + 4 n
+abbrev pub BadSize : ℕ → ℕ → Type 0
+BadSize n k = (n < 1) ⊎ (cellsMost < n) ⊎ (k ≢ tableWords n)
+
+-- word 0 is the number of cells
+abbrev pub cellsTold : List ℕ → ℕ
+cellsTold ts = getD ts 0 0
+
+abbrev pub BadTable : List ℕ → Type 0
+BadTable ts = BadSize (cellsTold ts) (length ts)
+
+abbrev pub BadWork : List ℕ → List ℕ → Type 0
+BadWork ts ws = length ws < 2 * cellsTold ts
+
+abbrev pub BadScript : List ℕ → Type 0
+BadScript ss = (length ss % 4 ≢ 0) ⊎ (4 * operationsMost < length ss)
+
+abbrev pub BadResults : List ℕ → List ℕ → Type 0
+BadResults ss rs = length rs < 2 * (length ss / 4)
+
+abbrev pub Unsound : List ℕ → Type 0
+Unsound ts = Sound (shown ts) → ⊥
+
+abbrev pub NoHolder : ℕ → Type 0
+NoHolder h = holdersMost ≤ h
+
+-- setting up
+
+abbrev pub setUpRows : List ℕ → ℕ → List Row
+setUpRows ts n = row TABLE-SIZE (BadSize n (length ts)) ∷ []
+
+-- a script run, before its operations
+
+abbrev pub runRows : List ℕ → List ℕ → List ℕ → List ℕ → List Row
+runRows ts ws ss rs =
+    row TABLE-SIZE (BadTable ts)
+    ∷ row WORK-SPACE (BadWork ts ws)
+    ∷ row SCRIPT (BadScript ss)
+    ∷ row RESULTS (BadResults ss rs)
+    ∷ row UNSOUND (Unsound ts)
+    ∷ []
+
+-- an operation
+
+-- every operation uses a; these use b too
+abbrev pub withB : List ℕ
+withB = PFL ∷ DECAP ∷ ADV ∷ BORROW ∷ CINV ∷ CONC ∷ []
+
+-- these take the first element of a, these fill b, and these take one new cell
+abbrev pub takingFirst : List ℕ
+takingFirst = DECAP ∷ ADV ∷ FIRST ∷ []
+
+abbrev pub fillingB : List ℕ
+fillingB = DECAP ∷ ADV ∷ BORROW ∷ CINV ∷ []
+
+abbrev pub takingOne : List ℕ
+takingOne = PFA ∷ PFL ∷ []
+
+abbrev pub UsesB : ℕ → Type 0
+UsesB c = OneOf c withB
+
+-- the cell n steps on along S
+unfoldable pub onward : List Cell → ℕ → ℕ → ℕ
+onward cs zero x = x
+onward cs (suc n) x = onward cs n (nextOf cs x)
+
+-- c is a cell of the main level of holder a's list
+abbrev pub MainLevel : Pool → ℕ → ℕ → Type 0
+MainLevel p a c = (c ≢ 0) × ((n : ℕ) × (onward (p .cells) n (holder p a) ≡ c))
+
+-- some count of the main level is over 1
+abbrev pub SomeShared : Pool → ℕ → Type 0
+SomeShared p a = (c : ℕ) × MainLevel p a c × (1 < countOf (p .cells) c)
+
+abbrev pub BadCode : Operation → Type 0
+BadCode o = (o .code < PFA) ⊎ (LENGTH < o .code)
+
+abbrev pub BadHolder : Operation → Type 0
+BadHolder o = NoHolder (o .a) ⊎ (UsesB (o .code) × NoHolder (o .b))
+
+abbrev pub Same : Operation → Type 0
+Same o = UsesB (o .code) × (o .a ≡ o .b)
+
+abbrev pub Null : Pool → Operation → Type 0
+Null p o = OneOf (o .code) takingFirst × (holder p (o .a) ≡ 0)
+
+abbrev pub Occupied : Pool → Operation → Type 0
+Occupied p o = OneOf (o .code) fillingB × (holder p (o .b) ≢ 0)
+
+abbrev pub Shared : Pool → Operation → Type 0
+Shared p o =
+    ((o .code ≡ DECAP) × (1 < countOf (p .cells) (holder p (o .a))))
+    ⊎ ((o .code ≡ INV) × SomeShared p (o .a))
+    ⊎ ((o .code ≡ CONC) × (holder p (o .b) ≢ 0) × SomeShared p (o .a))
+
+-- the cells that an operation needs: one, or as many as a's list is long
+abbrev pub Needs : Pool → Operation → ℕ → Type 0
+Needs p o n =
+    (OneOf (o .code) takingOne × (n ≡ 1))
+    ⊎ ((o .code ≡ CINV) × ((l : Lst) × ListAt (p .cells) (holder p (o .a)) l × (n ≡ len l)))
+
+abbrev pub NoRoom : Pool → Operation → Type 0
+NoRoom p o = (n : ℕ) × Needs p o n × (frees (p .cells) < n)
+
+abbrev pub beforeRoom : Pool → Operation → List Row
+beforeRoom p o =
+    row CODE (BadCode o)
+    ∷ row HOLDER (BadHolder o)
+    ∷ row SAME (Same o)
+    ∷ row NULL (Null p o)
+    ∷ row OCCUPIED (Occupied p o)
+    ∷ row SHARED (Shared p o)
+    ∷ []
+
+abbrev pub operationRows : Pool → Operation → List Row
+operationRows p o = beforeRoom p o ++ (row NO-ROOM (NoRoom p o) ∷ [])

@@ -1,0 +1,146 @@
+-- The engines that document 01 wants to see refused: each breaks the statement that its theorem names, on a table of one or two cells.
+use mathlib.Core.Path.{_≡_, refl, sym, ap, _∙_, subst}
+use mathlib.Core.Logic.{_≢_, _⊎_, inl, inr}
+use mathlib.Core.List.{List, [], _∷_, _++_}
+use Prim.Native.Nat.{ℕ, zero, suc, _≤_, _<_}
+use native.Mathlib.Omega.{arith}
+use lib.ListN.{getD, replicate}
+use Rattle.answers.specs.Answers.{DONE, TABLE-SIZE}
+use Rattle.lists.specs.Lst.{Lst, nil, atom}
+use Rattle.pool.specs.Fresh.{zero-at}
+use Rattle.pool.specs.Number.{Number, start, hit, miss}
+use Rattle.pool.specs.Pool.{Cell, Pool, countOf, holder, ListAt, Walk}
+use Rattle.pool.specs.Script.{PFA, Operation}
+use Rattle.table.specs.Limits.{holdersMost}
+use Rattle.setup.specs.SetUp.{setUp}
+use Rattle.calls.specs.Entry.{shown}
+use Rattle.promises.specs.Engine.{Engine, Reached, made, ranOn}
+use Rattle.promises.specs.Rows.{None}
+use Rattle.promises.specs.Grounds.{BadSize, BadCode, BadHolder, Shared, beforeRoom, withB, takingFirst, fillingB}
+use Rattle.promises.specs.Demand1.{SetUpRefusals}
+use Rattle.promises.specs.Demand2.{Holds, OperationsGive, ScriptsGive}
+use Rattle.promises.specs.Demand3.{Used, erasing, EraseCounts, NoRoomToPerform}
+use Rattle.promises.specs.Tells.{tells-among}
+use Rattle.promises.specs.WrongEngines.{alwaysRefuses, constantAnswer, doesNothing, firstOnly, inventsNumber, neverLends}
+use Rattle.promises.specs.Computed.{computed}
+
+abbrev pub zeros : ℕ → List ℕ
+zeros n = replicate n 0
+
+-- PFA of v to holder a
+abbrev pub prefix : ℕ → ℕ → List ℕ
+prefix a v = PFA ∷ a ∷ 0 ∷ v ∷ []
+
+abbrev pub prefixing : ℕ → ℕ → Operation
+prefixing a v = record { code = PFA; a = a; b = 0; v = v }
+
+-- new tables of one and of two cells
+abbrev pub one : List ℕ
+one = setUp (zeros 70) 1 .table
+
+abbrev pub two : List ℕ
+two = setUp (zeros 74) 2 .table
+
+-- refusing everything: a set-up of the right size is no row's
+pub always-refuses : SetUpRefusals alwaysRefuses → ⊥
+always-refuses d = go (d (zeros 70) 1)
+  where
+    fits : BadSize 1 70 → ⊥
+    fits (inl h) = omega arith
+    fits (inr (inl h)) = omega arith
+    fits (inr (inr h)) = h refl
+
+    go : (BadSize 1 70 × (TABLE-SIZE ≡ TABLE-SIZE)) ⊎ ((BadSize 1 70 → ⊥) × (TABLE-SIZE ≡ DONE)) → ⊥
+    go (inl h) = fits (h .0)
+    go (inr h) = omega (arith, h .1)
+
+-- a null holder has no atom
+pub no-atom : (cs : List Cell) (c v : ℕ) (l : Lst) → c ≡ 0 → ListAt cs c (atom v l) → ⊥
+unfolding ListAt
+no-atom cs c v l e w = let z = subst (λ (x : ℕ). ListAt cs x (atom v l)) e w in omega (arith, z .0)
+
+-- holders that are all null have the null list
+pub all-null : (p : Pool) → p .holders ≡ replicate holdersMost 0 → (i : ℕ) → ListAt (p .cells) (holder p i) nil
+unfolding ListAt
+all-null p e i = ap (λ (hs : List ℕ). getD hs i 0) e ∙ zero-at holdersMost i 0 refl
+
+one-null : Holds one (λ i. nil)
+unfolding computed
+one-null = all-null (shown one) refl
+
+two-null : Holds two (λ i. nil)
+unfolding computed
+two-null = all-null (shown two) refl
+
+-- one answer for all: a PFA that is done gives its holder the atom
+pub constant-answer : OperationsGive constantAnswer → ⊥
+unfolding computed
+constant-answer d = no-atom (shown one .cells) 0 5 nil refl (d one (zeros 2) (zeros 2) (prefixing 0 5) (λ i. nil) one-null refl .0 0)
+
+-- changing nothing: the same
+pub does-nothing : OperationsGive doesNothing → ⊥
+unfolding computed
+does-nothing d = no-atom (shown one .cells) 0 5 nil refl (d one (zeros 2) (zeros 2) (prefixing 0 5) (λ i. nil) one-null refl .0 0)
+
+-- the first operation only: the second PFA gives its holder an atom too
+pub first-only : ScriptsGive firstOnly → ⊥
+unfolding computed
+first-only d =
+    let r = firstOnly .run two (zeros 4) (prefix 0 5 ++ prefix 1 7) (zeros 4) in
+    no-atom (shown (r .table) .cells) 0 7 nil refl (d two (zeros 4) (prefix 0 5 ++ prefix 1 7) (zeros 4) (λ i. nil) two-null .0 1)
+
+number-le : {P : ℕ → Type 0} {k n : ℕ} → Number P k n → n ≤ k
+number-le start = omega arith
+number-le (hit p r) = omega (arith, number-le r)
+number-le (miss p r) = omega (arith, number-le r)
+
+-- a table that the engine itself has made: one cell, in use
+abbrev full : Engine → List ℕ
+full E = E .run one (zeros 2) (prefix 0 5) (zeros 2) .table
+
+-- a made-up number: it counts cells, and there is one
+pub invents-number : EraseCounts inventsNumber → ⊥
+unfolding computed
+invents-number d =
+    let t = full inventsNumber in
+    let r : Reached inventsNumber t = ranOn (zeros 2) (prefix 0 5) (zeros 2) (made (zeros 70) 1 refl) in
+    let n = d t (zeros 2) (zeros 2) 0 0 0 r refl .1 in
+    omega (arith, number-le n)
+
+-- PFA into a holder is refused for nothing but lack of room
+pfa-passes : (p : Pool) (v : ℕ) → None (beforeRoom p (prefixing 0 v))
+pfa-passes p v = (code, (held, ((λ s. tells-among PFA withB .1 refl (s .0)), ((λ s. tells-among PFA takingFirst .1 refl (s .0)), ((λ s. tells-among PFA fillingB .1 refl (s .0)), (shared, tt))))))
+  where
+    code : BadCode (prefixing 0 v) → ⊥
+    code (inl h) = omega arith
+    code (inr h) = omega arith
+
+    held : BadHolder (prefixing 0 v) → ⊥
+    held (inl h) = omega arith
+    held (inr h) = tells-among PFA withB .1 refl (h .0)
+
+    shared : Shared p (prefixing 0 v) → ⊥
+    shared (inl h) = omega (arith, h .0)
+    shared (inr (inl h)) = omega (arith, h .0)
+    shared (inr (inr h)) = omega (arith, h .0)
+
+-- nothing is reached from null
+from-null : (cs : List Cell) (n b c : ℕ) → b ≡ 0 → c ≢ 0 → Walk cs n b c → ⊥
+unfolding Walk
+from-null cs zero b c e n w = n (sym w ∙ e)
+from-null cs (suc k) b c e n w = let z = subst (λ (x : ℕ). 0 < countOf cs x) e (w .1 .0) in omega arith
+
+none-used : (p : Pool) → p .holders ≡ replicate holdersMost 0 → (c : ℕ) → c ≢ 0 → Used p c → ⊥
+unfolding ListAt
+none-used p e c n (h, _, (k, w)) = from-null (p .cells) k (holder p h) c (all-null p e h) n w
+
+-- freed cells out of use: no holder reaches the one cell, and one is needed
+pub never-lends : NoRoomToPerform neverLends → ⊥
+unfolding computed
+never-lends d =
+    let t = full neverLends in
+    let g = neverLends .run t (zeros 2) (erasing 0 0 0) (zeros 2) .table in
+    let r : Reached neverLends g = ranOn (zeros 2) (erasing 0 0 0) (zeros 2) (ranOn (zeros 2) (prefix 0 5) (zeros 2) (made (zeros 70) 1 refl)) in
+    let k : Number (Used (shown g)) 1 0 = miss (none-used (shown g) refl 1 (λ z. omega arith)) start in
+    let n = d g (zeros 2) (zeros 2) (prefixing 0 5) 0 1 r (λ h. omega arith) (omega arith) (pfa-passes (shown g) 5) k (inl (inl refl, refl)) .0 refl in
+    omega (arith, n)

@@ -1,0 +1,62 @@
+-- A script run is refused at its first tests, or performs its operations on the sound pool that the table shows.
+use mathlib.Core.Path.{_≡_, refl}
+use mathlib.Core.Logic.{_≢_}
+use mathlib.Core.Bool.{Bool, true, false, cond}
+use mathlib.Core.List.{List}
+use Prim.Native.Nat.{ℕ}
+use native.Mathlib.Omega.{arith}
+use Rattle.answers.specs.Answers.{DONE, TABLE-SIZE, WORK-SPACE, SCRIPT, RESULTS, UNSOUND}
+use Rattle.pool.specs.Script.{performed}
+use Rattle.calls.specs.Entry.{badTable, badWork, shown, unsound, used}
+use Rattle.calls.specs.Run.{Ran, operations, badScript, badResults, notRun, ranTo, ran}
+use Rattle.promises.specs.Rows.{None}
+use Rattle.promises.specs.Grounds.{runRows}
+use Rattle.promises.specs.TestsTell.{tells-table, tells-work, tells-script, tells-results, tells-unsound}
+use Rattle.promises.specs.Tables.{Good, good, fails}
+
+pub record Passed (ts ws ss rs : List ℕ) : Type 0 where
+  pub table : badTable ts ≡ false
+  pub work : badWork ts ws ≡ false
+  pub script : badScript ss ≡ false
+  pub results : badResults ss rs ≡ false
+  pub sound : unsound ts ≡ false
+
+pub passed-good : {ts ws ss rs : List ℕ} → Passed ts ws ss rs → Good ts
+passed-good {ts} h = good ts (h .table) (h .sound)
+
+module _ (ts ws ss rs : List ℕ) where
+  pub passes : None (runRows ts ws ss rs) → Passed ts ws ss rs
+  passes n =
+      let e = fails (badTable ts) (tells-table ts) (n .0) in
+      record {
+        table = e;
+        work = fails (badWork ts ws) (tells-work ts ws e) (n .1 .0);
+        script = fails (badScript ss) (tells-script ss) (n .1 .1 .0);
+        results = fails (badResults ss rs) (tells-results ss rs) (n .1 .1 .1 .0);
+        sound = fails (unsound ts) (tells-unsound ts) (n .1 .1 .1 .1 .0);
+      }
+
+  pub passed-none : Passed ts ws ss rs → None (runRows ts ws ss rs)
+  passed-none h =
+      (tells-table ts .1 (h .table), (tells-work ts ws (h .table) .1 (h .work), (tells-script ss .1 (h .script), (tells-results ss rs .1 (h .results), (tells-unsound ts .1 (h .sound), tt)))))
+
+  abbrev pub whole : Ran
+  whole = ranTo (performed (shown ts) (operations ss)) ts ws rs
+
+  pub runs : Passed ts ws ss rs → ran ts ws ss rs ≡ whole
+  unfolding ran
+  runs h = rw (h .table, h .work, h .script, h .results, h .sound)
+
+  -- the two ways
+  pub run-ways : (P : Ran → Type 0) → ((n : ℕ) (us : List ℕ) → n ≢ DONE → P (notRun n ts us rs)) → (Passed ts ws ss rs → P whole) → P (ran ts ws ss rs)
+  unfolding ran
+  run-ways P f g = go (badTable ts) (badWork ts ws) (badScript ss) (badResults ss rs) (unsound ts) refl refl refl refl refl
+    where
+      go : (a b c d e : Bool) → badTable ts ≡ a → badWork ts ws ≡ b → badScript ss ≡ c → badResults ss rs ≡ d → unsound ts ≡ e
+          → P (cond a (notRun TABLE-SIZE ts ws rs) (cond b (notRun WORK-SPACE ts ws rs) (cond c (notRun SCRIPT ts ws rs) (cond d (notRun RESULTS ts ws rs) (cond e (notRun UNSOUND ts (used ts ws) rs) whole)))))
+      go true b c d e p q r s t = f TABLE-SIZE ws (λ z. omega arith)
+      go false true c d e p q r s t = f WORK-SPACE ws (λ z. omega arith)
+      go false false true d e p q r s t = f SCRIPT ws (λ z. omega arith)
+      go false false false true e p q r s t = f RESULTS ws (λ z. omega arith)
+      go false false false false true p q r s t = f UNSOUND (used ts ws) (λ z. omega arith)
+      go false false false false false p q r s t = g (record { table = p; work = q; script = r; results = s; sound = t })

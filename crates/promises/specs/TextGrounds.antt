@@ -1,0 +1,137 @@
+-- When each answer about text is given, in document 01's words: what the text form allows after the characters so far, and the rows of the
+-- text check, of reading and of writing.
+use mathlib.Core.Path.{_≡_}
+use mathlib.Core.Logic.{_≢_, _⊎_}
+use mathlib.Core.Bool.{cond}
+use mathlib.Core.List.{List, [], _∷_, _++_}
+use Prim.Native.Nat.{ℕ, _+_, _-_, _*_, _%_, _≤_, _<_}
+use lib.ListN.{length}
+use Rattle.answers.specs.Answers.{TABLE-SIZE, WORK-SPACE, UNSOUND, HOLDER, OCCUPIED, NO-ROOM, TEXT-SIZE, END, NOT-A-LIST, ATOM, DEEP, OUTPUT}
+use Rattle.lists.specs.Lst.{Lst, extent}
+use Rattle.pool.specs.Pool.{holder, ListAt, frees}
+use Rattle.text.specs.Limits.{levels, recordBytes, textMost, digitsMost, atomsEnd}
+use Rattle.text.specs.Marks.{listIn}
+use Rattle.text.specs.ListText.{textOf, isDigit}
+use Rattle.text.specs.Writing.{usable, depthAfter}
+use Rattle.calls.specs.Entry.{shown}
+use Rattle.promises.specs.Rows.{Row, row}
+use Rattle.promises.specs.Grounds.{BadTable, BadWork, Unsound, NoHolder}
+
+abbrev pub BadText : List ℕ → Type 0
+BadText xs = (length xs % recordBytes ≢ 0) ⊎ (textMost < length xs)
+
+-- a number carried along characters
+unfoldable pub along : (ℕ → ℕ → ℕ) → ℕ → List ℕ → ℕ
+along f n [] = n
+along f n (b ∷ bs) = along f (f n b) bs
+
+-- the levels open after characters: "(" opens one, ")" shuts one
+abbrev pub openIn : List ℕ → ℕ
+openIn us = along depthAfter 0 us
+
+-- the last character, 0 where there is none
+abbrev pub lastIn : List ℕ → ℕ
+lastIn us = along (λ c b. b) 0 us
+
+-- the digits at their end, and the value of these
+abbrev pub digitsIn : List ℕ → ℕ
+digitsIn us = along (λ n b. cond (isDigit b) (n + 1) 0) 0 us
+
+abbrev pub valueIn : List ℕ → ℕ
+valueIn us = along (λ v b. cond (isDigit b) (v * 8 + (b - 48)) 0) 0 us
+
+abbrev pub Octal : ℕ → Type 0
+Octal b = (48 ≤ b) × (b ≤ 55)
+
+-- what may stand after the character c where d levels are open: "(" at the start; an element or ")" after "("; an element after ",";
+-- a digit, ")" or "," in an atom; ")" or "," after an inner list; a blank after the last ")"
+abbrev pub Follows : ℕ → ℕ → ℕ → Type 0
+Follows c d b =
+    ((c ≡ 0) × (b ≡ 40))
+    ⊎ ((c ≡ 40) × ((b ≡ 40) ⊎ (b ≡ 41) ⊎ Octal b))
+    ⊎ ((c ≡ 44) × ((b ≡ 40) ⊎ Octal b))
+    ⊎ (Octal c × (Octal b ⊎ (b ≡ 41) ⊎ (b ≡ 44)))
+    ⊎ ((c ≡ 41) × (0 < d) × ((b ≡ 41) ⊎ (b ≡ 44)))
+    ⊎ (((c ≡ 41) ⊎ (c ≡ 32)) × (d ≡ 0) × (b ≡ 32))
+
+-- the text form allows b after us
+abbrev pub Allowed : List ℕ → ℕ → Type 0
+Allowed us b = Follows (lastIn us) (openIn us) b
+
+-- b is a twelfth digit, or one that makes the value 2^32 or more
+abbrev pub TooLarge : List ℕ → ℕ → Type 0
+TooLarge us b = Octal b × ((digitsMost ≤ digitsIn us) ⊎ (atomsEnd ≤ valueIn us * 8 + (b - 48)))
+
+-- b is a "(" that opens level 201
+abbrev pub OpensTooMany : List ℕ → ℕ → Type 0
+OpensTooMany us b = (b ≡ 40) × (levels ≤ openIn us)
+
+-- the fault of the character b after us
+abbrev pub FaultAt : List ℕ → ℕ → ℕ → Type 0
+FaultAt us b n =
+    ((n ≡ NOT-A-LIST) × (Allowed us b → ⊥))
+    ⊎ ((n ≡ ATOM) × Allowed us b × TooLarge us b)
+    ⊎ ((n ≡ DEEP) × Allowed us b × OpensTooMany us b)
+
+abbrev pub NoFault : List ℕ → ℕ → Type 0
+NoFault us b = Allowed us b × (TooLarge us b → ⊥) × (OpensTooMany us b → ⊥)
+
+-- the list has ended and its record is full
+abbrev pub Complete : List ℕ → Type 0
+Complete us = ((lastIn us ≡ 41) ⊎ (lastIn us ≡ 32)) × (openIn us ≡ 0) × (length us % recordBytes ≡ 0)
+
+-- no character of us is a fault, and none stands behind a full last record
+abbrev pub Fine : List ℕ → Type 0
+Fine us = (vs : List ℕ) (c : ℕ) (ws : List ℕ) → us ≡ vs ++ (c ∷ ws) → NoFault vs c × (Complete vs → ⊥)
+
+-- the earliest fault of a text is n
+abbrev pub Faulted : List ℕ → ℕ → Type 0
+Faulted xs n = (us : List ℕ) × (b : ℕ) × (later : List ℕ) × (xs ≡ us ++ (b ∷ later)) × Fine us × (Complete us → ⊥) × FaultAt us b n
+
+abbrev pub RunsOut : List ℕ → Type 0
+RunsOut xs = Fine xs × (Complete xs → ⊥)
+
+abbrev pub faultRows : List ℕ → List Row
+faultRows xs = row NOT-A-LIST (Faulted xs NOT-A-LIST ⊎ RunsOut xs) ∷ row ATOM (Faulted xs ATOM) ∷ row DEEP (Faulted xs DEEP) ∷ []
+
+abbrev pub sizeRows : List ℕ → List Row
+sizeRows xs = row TEXT-SIZE (BadText xs) ∷ row END (length xs ≡ 0) ∷ []
+
+abbrev pub checkRows : List ℕ → List Row
+checkRows xs = sizeRows xs ++ faultRows xs
+
+-- reading
+
+abbrev pub beforeReading : List ℕ → List ℕ → ℕ → List ℕ → List Row
+beforeReading ts ws h xs =
+    row TABLE-SIZE (BadTable ts)
+    ∷ row WORK-SPACE (BadWork ts ws)
+    ∷ row HOLDER (NoHolder h)
+    ∷ row TEXT-SIZE (BadText xs)
+    ∷ row END (length xs ≡ 0)
+    ∷ row UNSOUND (Unsound ts)
+    ∷ row OCCUPIED (holder (shown ts) h ≢ 0)
+    ∷ faultRows xs
+
+abbrev pub readRows : List ℕ → List ℕ → ℕ → List ℕ → List Row
+readRows ts ws h xs = beforeReading ts ws h xs ++ (row NO-ROOM (frees (shown ts .cells) < extent (listIn xs)) ∷ [])
+
+-- writing
+
+-- a "(" that opens level 201, no later than just behind the usable output
+abbrev pub TooDeep : ℕ → List ℕ → Type 0
+TooDeep u t = (us : List ℕ) × (later : List ℕ) × (t ≡ us ++ (40 ∷ later)) × (levels ≤ openIn us) × (length us ≤ u)
+
+-- the list that holder h of a table has
+abbrev pub Has : List ℕ → ℕ → Lst → Type 0
+Has ts h l = ListAt (shown ts .cells) (holder (shown ts) h) l
+
+abbrev pub writeRows : List ℕ → List ℕ → ℕ → List ℕ → List Row
+writeRows ts ws h out =
+    row TABLE-SIZE (BadTable ts)
+    ∷ row WORK-SPACE (BadWork ts ws)
+    ∷ row HOLDER (NoHolder h)
+    ∷ row UNSOUND (Unsound ts)
+    ∷ row DEEP ((l : Lst) × Has ts h l × TooDeep (usable (length out)) (textOf l))
+    ∷ row OUTPUT ((l : Lst) × Has ts h l × (usable (length out) < length (textOf l)))
+    ∷ []

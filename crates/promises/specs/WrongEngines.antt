@@ -1,0 +1,122 @@
+-- Engines that break a demand, each in one way: those that document 01 wants to see refused, and the slips that it warns of.
+use mathlib.Core.Bool.{Bool, true, cond, not, _&&_}
+use mathlib.Core.List.{List, [], _∷_}
+use Prim.Native.Nat.{ℕ, zero, suc, _+_, _-_, _/_}
+use lib.Dec.{eqb, ltb}
+use lib.ListN.{length, getD, set, take}
+use Rattle.answers.specs.Answers.{DONE, TABLE-SIZE, WORK-SPACE, SCRIPT, RESULTS, UNSOUND, SAME, SHARED, NO-ROOM}
+use Rattle.pool.specs.Tally.{occ}
+use Rattle.pool.specs.Pool.{Pool, countOf, nextOf, setCount, holder, frees}
+use Rattle.pool.specs.Held.{into}
+use Rattle.pool.specs.Erase.{Dropping, step, total}
+use Rattle.pool.specs.Operations.{decap}
+use Rattle.pool.specs.Check.{check, chained}
+use Rattle.pool.specs.Script.{PFA, DECAP, ERASE, INV, CONC, Operation, Effect, Run, refusal, effect, tellsFirst, tellsNumber, stops, goesOn, performed}
+use Rattle.calls.specs.Entry.{badTable, badWork, shown, used}
+use Rattle.calls.specs.Run.{Ran, operations, badScript, badResults, notRun, ranTo, ran}
+use Rattle.calls.specs.Read.{notRead}
+use Rattle.calls.specs.Write.{notWritten}
+use Rattle.promises.specs.Engine.{Engine, ours}
+
+-- ours with another script run
+abbrev running : (List ℕ → List ℕ → List ℕ → List ℕ → Ran) → Engine
+running f = record { setUp = ours .setUp; run = f; read = ours .read; write = ours .write; check = ours .check }
+
+-- refuses whatever it is asked
+abbrev pub alwaysRefuses : Engine
+alwaysRefuses = record {
+  setUp = λ ts n. record { answer = TABLE-SIZE; table = ts };
+  run = λ ts ws ss rs. notRun TABLE-SIZE ts ws rs;
+  read = λ ts ws h xs. notRead TABLE-SIZE ts ws;
+  write = λ ts ws h out. notWritten TABLE-SIZE ws out;
+  check = λ xs. record { no = 15; taken = 0 };
+}
+
+-- one answer for every script: done
+abbrev pub constantAnswer : Engine
+constantAnswer = running (λ ts ws ss rs. record { answer = DONE; count = length ss / 4; table = ts; work = ws; results = rs })
+
+-- has our answers and changes nothing
+abbrev pub doesNothing : Engine
+doesNothing = running (λ ts ws ss rs. let r = ran ts ws ss rs in record { answer = r .answer; count = r .count; table = ts; work = ws; results = rs })
+
+-- does a script's first operation, and leaves the table at that
+abbrev pub firstOnly : Engine
+firstOnly = running (λ ts ws ss rs. let r = ran ts ws ss rs in record { answer = r .answer; count = r .count; table = ran ts ws (take 4 ss) rs .table; work = r .work; results = r .results })
+
+abbrev starts : ℕ → List ℕ → Bool
+starts c ss = eqb (getD ss 0 0) c
+
+-- makes up the number of ERASE
+abbrev pub inventsNumber : Engine
+inventsNumber = running (λ ts ws ss rs. let r = ran ts ws ss rs in record { answer = r .answer; count = r .count; table = r .table; work = r .work; results = cond (starts ERASE ss) (set (r .results) 1 9) (r .results) })
+
+-- cells that ERASE frees stay out of use: the free chain is as before it, and where that has run out there is no room
+abbrev pub neverLends : Engine
+neverLends = running (λ ts ws ss rs.
+    let r = ran ts ws ss rs in
+    cond (starts PFA ss && eqb (shown ts .free) 0) (notRun NO-ROOM ts (used ts ws) rs)
+    (record { answer = r .answer; count = r .count; table = cond (starts ERASE ss) (set (r .table) 1 (shown ts .free)) (r .table); work = r .work; results = r .results }))
+
+-- ours with another test for soundness and other rules for operations
+
+unfoldable pub performedBy : (Pool → Operation → ℕ) → (Pool → Operation → Effect) → Pool → List Operation → Run
+performedBy f g p [] = stops p DONE
+performedBy f g p (o ∷ os) = let r = performedBy f g (g p o .pool) os in cond (eqb (f p o) DONE) (goesOn (g p o) r) (stops p (f p o))
+
+unfoldable pub ranBy : (Pool → Bool) → (Pool → List Operation → Run) → List ℕ → List ℕ → List ℕ → List ℕ → Ran
+ranBy sound perform ts ws ss rs =
+    cond (badTable ts) (notRun TABLE-SIZE ts ws rs)
+    (cond (badWork ts ws) (notRun WORK-SPACE ts ws rs)
+    (cond (badScript ss) (notRun SCRIPT ts ws rs)
+    (cond (badResults ss rs) (notRun RESULTS ts ws rs)
+    (cond (not (sound (shown ts))) (notRun UNSOUND ts (used ts ws) rs)
+    (ranTo (perform (shown ts) (operations ss)) ts ws rs)))))
+
+abbrev ruled : (Pool → Operation → ℕ) → (Pool → Operation → Effect) → Engine
+ruled f g = running (ranBy check (performedBy f g))
+
+-- INV tested by the first count only
+abbrev pub firstCountOnly : Engine
+firstCountOnly = ruled (λ p o. cond (eqb (o .code) INV && (eqb (refusal p o) SHARED && eqb (countOf (p .cells) (holder p (o .a))) 1)) DONE (refusal p o)) effect
+
+-- ERASE that goes on behind a cell whose count is not yet 0
+unfoldable pub lowering : ℕ → Dropping → Dropping
+lowering zero s = s
+lowering (suc k) s =
+    let x = s .here in
+    let t = step (s .free) (s .cells) (s .here) (s .waiting) (s .freed) in
+    lowering k (cond (ltb 1 (countOf (s .cells) x)) (record { free = t .free; cells = t .cells; here = nextOf (s .cells) x; waiting = t .waiting; freed = t .freed }) t)
+
+abbrev erasesBehind : Pool → ℕ → Effect
+erasesBehind p a =
+    let s = lowering (total (p .cells) + total (p .cells)) (record { free = p .free; cells = p .cells; here = holder p a; waiting = 0; freed = 0 }) in
+    tellsNumber (s .freed) (record { free = s .free; holders = set (p .holders) a 0; cells = s .cells })
+
+abbrev pub lowersBehind : Engine
+lowersBehind = ruled refusal (λ p o. cond (eqb (o .code) ERASE) (erasesBehind p (o .a)) (effect p o))
+
+-- DECAP that gives the tail's count another value
+abbrev recounts : (ℕ → ℕ) → Engine
+recounts f = ruled refusal (λ p o. cond (eqb (o .code) DECAP) (tellsFirst p (o .a) (retold (decap p (o .a) (o .b)) (holder (decap p (o .a) (o .b)) (o .a)))) (effect p o))
+  where
+    retold : Pool → ℕ → Pool
+    retold q x = record { free = q .free; holders = q .holders; cells = setCount (q .cells) x (f (countOf (q .cells) x)) }
+
+abbrev pub decapLowers : Engine
+decapLowers = recounts (λ n. n - 1)
+
+abbrev pub decapRaises : Engine
+decapRaises = recounts suc
+
+-- CONC with one holder named twice
+abbrev pub joinsItself : Engine
+joinsItself = ruled (λ p o. cond (eqb (o .code) CONC && eqb (refusal p o) SAME) DONE (refusal p o)) effect
+
+-- a count check: every count is the arrows, and the free chain is right, but nothing asks what a holder reaches
+unfoldable pub countsRight : ℕ → Pool → Bool
+countsRight zero p = true
+countsRight (suc k) p = eqb (countOf (p .cells) (suc k)) (occ (p .holders) (suc k) + into (p .cells) (suc k)) && countsRight k p
+
+abbrev pub countsOnly : Engine
+countsOnly = running (ranBy (λ p. chained (frees (p .cells)) (p .cells) (p .free) && countsRight (length (p .cells)) p) performed)

@@ -1,0 +1,4 @@
+pub mod Runs
+pub mod Midway
+pub mod MidwayLaws
+pub mod RunLaws

@@ -1,0 +1,61 @@
+-- What a script run comes to, test by test in the order of the answers 1 to 5, and past them.
+use mathlib.Core.Path.{_≡_, refl, sym, ap, _∙_}
+use mathlib.Core.Logic.{_≢_}
+use mathlib.Core.Bool.{true, false}
+use mathlib.Core.List.{List}
+use Prim.Native.Nat.{ℕ, _*_, _/_, _%_, _≤_, _<_}
+use package.borrow.Author.Tests.{lt-ltb, le-ltb, eq-eqb, ne-eqb}
+use lib.ListN.{length}
+use Rattle.answers.specs.Answers.{TABLE-SIZE, WORK-SPACE, SCRIPT, RESULTS, UNSOUND, refused}
+use Rattle.answers.specs.declared.Outcome.{Outcome}
+use Rattle.calls.specs.Entry.{shapeOf, shown, used}
+use Rattle.calls.specs.Run.{operationsMost, operations, notRun, ranTo, ran, Ran}
+use Rattle.pool.specs.Check.{check}
+use Rattle.pool.specs.Script.{performed}
+use Rattle.scripts.specs.Runs.{Runs, Performs}
+use Rattle.table.specs.Sizes.{cellsOf}
+use Rattle.table.specs.WordsLaws.{shown-words}
+
+-- a refusal leaves table and results as they were
+pub keeps-all : {ts ws rs : List ℕ} {q : Ran} {r : Outcome} (k : ℕ) → q ≡ notRun k ts ws rs → r ≡ refused k → Runs r ts ws rs q
+keeps-all k e f = rw (e, f) (record { outcome = refl; table = refl; work = refl; results = refl })
+
+module _ (ts ws ss rs : List ℕ) where
+  pub wrong-table : cellsOf ts ≡ 0 → ran ts ws ss rs ≡ notRun TABLE-SIZE ts ws rs
+  unfolding ran
+  wrong-table e = rw e refl
+
+  module _ (n : cellsOf ts ≢ 0) where
+    pub short-work : length ws < 2 * cellsOf ts → ran ts ws ss rs ≡ notRun WORK-SPACE ts ws rs
+    unfolding ran
+    short-work l = rw (ne-eqb (cellsOf ts) 0 n, lt-ltb (length ws) (2 * cellsOf ts) l) refl
+
+    module _ (w : 2 * cellsOf ts ≤ length ws) where
+      pub not-fours : length ss % 4 ≢ 0 → ran ts ws ss rs ≡ notRun SCRIPT ts ws rs
+      unfolding ran
+      not-fours m = rw (ne-eqb (cellsOf ts) 0 n, le-ltb (length ws) (2 * cellsOf ts) w, ne-eqb (length ss % 4) 0 m) refl
+
+      module _ (e : length ss % 4 ≡ 0) where
+        pub too-many : 4 * operationsMost < length ss → ran ts ws ss rs ≡ notRun SCRIPT ts ws rs
+        unfolding ran
+        too-many l = rw (ne-eqb (cellsOf ts) 0 n, le-ltb (length ws) (2 * cellsOf ts) w, eq-eqb (length ss % 4) 0 e, lt-ltb (4 * operationsMost) (length ss) l) refl
+
+        module _ (m : length ss ≤ 4 * operationsMost) where
+          pub few-results : length rs < 2 * (length ss / 4) → ran ts ws ss rs ≡ notRun RESULTS ts ws rs
+          unfolding ran
+          few-results l =
+              rw (ne-eqb (cellsOf ts) 0 n, le-ltb (length ws) (2 * cellsOf ts) w, eq-eqb (length ss % 4) 0 e, le-ltb (4 * operationsMost) (length ss) m, lt-ltb (length rs) (2 * (length ss / 4)) l) refl
+
+          module _ (l : 2 * (length ss / 4) ≤ length rs) where
+            pub not-sound : check (shown ts) ≡ false → ran ts ws ss rs ≡ notRun UNSOUND ts (used ts ws) rs
+            unfolding ran
+            not-sound h =
+                rw (ne-eqb (cellsOf ts) 0 n, le-ltb (length ws) (2 * cellsOf ts) w, eq-eqb (length ss % 4) 0 e, le-ltb (4 * operationsMost) (length ss) m, le-ltb (length rs) (2 * (length ss / 4)) l, h) refl
+
+            goes : check (shown ts) ≡ true → ran ts ws ss rs ≡ ranTo (performed (shown ts) (operations ss)) ts ws rs
+            unfolding ran
+            goes h =
+                rw (ne-eqb (cellsOf ts) 0 n, le-ltb (length ws) (2 * cellsOf ts) w, eq-eqb (length ss % 4) 0 e, le-ltb (4 * operationsMost) (length ss) m, le-ltb (length rs) (2 * (length ss / 4)) l, h) refl
+
+            pub performs-all : {r : Outcome} {us vs xs : List ℕ} → check (shown ts) ≡ true → vs ≡ used ts ws → Performs (shapeOf ts) rs r us xs (performed (shown ts) (operations ss)) → Runs r us vs xs (ran ts ws ss rs)
+            performs-all h v p = rw (goes h) (record { outcome = p .outcome; table = shown-words (p .table); work = v; results = p .results })

@@ -1,0 +1,110 @@
+// A run of operations: the tests 1 to 5 once and in this order, then operation by operation up to the first that is refused.
+ghost use mathlib.Core.Path.{_≡_};
+ghost use Prim.Native.Nat.{_+_, _*_, _/_, _%_, _≤_};
+ghost use lib.ListN.{length};
+ghost use Rattle.calls.specs.Run.{operationsMost, operations, ran};
+ghost use Rattle.ops.specs.Replies.{Gives};
+ghost use Rattle.pool.specs.Pool.{Sound};
+ghost use Rattle.pool.specs.Script.{performed};
+ghost use Rattle.scripts.specs.Midway.{operationAt, written};
+ghost use Rattle.scripts.specs.Runs.{Runs, Performs};
+ghost use Rattle.table.specs.View.{view, Table};
+use answers::Answer;
+use answers::Outcome;
+use ops::Reply;
+use table::Shape;
+
+// A script: words in fours, code, a, b and v.
+pub struct Script(pub usize);
+
+impl Script {
+    pub const MOST: usize = 4096;
+
+    pub const WORDS: usize = 4;
+
+    // the most words of a script
+    pub fn most() -> usize
+        ensures { λ r. ⌜ r ≡ 4 * operationsMost ⌝ }
+    {
+        Script::WORDS * Script::MOST
+    }
+}
+
+// Operation i of a script.
+fn perform_at(s: Shape, table: &mut [u32], script: &[u32], i: usize) -> Reply
+    requires { ⌜ Table s (now table) ⌝ }
+    requires { ⌜ Sound (view s (now table)) ⌝ }
+    requires { ⌜ 4 * i + 4 ≤ length (now script) ⌝ }
+    ensures { λ r. ⌜ Gives s (now (table .exit)) r (view s (now (table .entry))) (operationAt (now (script .entry)) i) ⌝ }
+{
+    let at = Script::WORDS * i;
+    ops::perform(
+        s,
+        table,
+        script[at],
+        script[at + 1],
+        script[at + 2],
+        script[at + 3],
+    )
+}
+
+// The result words of operation i.
+fn write_at(results: &mut [u32], i: usize, kind: u32, value: u32)
+    requires { ⌜ 2 * i + 2 ≤ length (now results) ⌝ }
+    ensures { λ r. ⌜ now (results .exit) ≡ written (now (results .entry)) i kind value ⌝ }
+{
+    let at = 2 * i;
+    results[at] = kind;
+    results[at + 1] = value;
+}
+
+// The operations one after another.
+fn perform_all(s: Shape, table: &mut [u32], script: &[u32], results: &mut [u32]) -> Outcome
+    requires { ⌜ Table s (now table) ⌝ }
+    requires { ⌜ Sound (view s (now table)) ⌝ }
+    requires { ⌜ (length (now script) % 4 ≡ 0) × (length (now script) ≤ 4 * operationsMost) ⌝ }
+    requires { ⌜ 2 * (length (now script) / 4) ≤ length (now results) ⌝ }
+    ensures { λ r. ⌜ Performs s (now (results .entry)) r (now (table .exit)) (now (results .exit)) (performed (view s (now (table .entry))) (operations (now (script .entry)))) ⌝ }
+{
+    let n = script.len() / Script::WORDS;
+    let mut i = 0;
+    while i < n {
+        let reply = perform_at(s, table, script, i);
+        match reply {
+            Reply::Refused(answer) => {
+                return Outcome::stopped(answer, i as u32);
+            }
+            Reply::Done(kind, value) => {
+                write_at(results, i, kind, value);
+            }
+        }
+        i += 1;
+    }
+    Outcome::done(n as u32)
+}
+
+pub fn run(table: &mut [u32], work: &mut [u32], script: &[u32], results: &mut [u32]) -> Outcome
+    ensures { λ r. ⌜ Runs r (now (table .exit)) (now (work .exit)) (now (results .exit)) (ran (now (table .entry)) (now (work .entry)) (now (script .entry)) (now (results .entry))) ⌝ }
+{
+    let n = table::cells_of(table);
+    if n == 0 {
+        return Outcome::refused(Answer::TABLE_SIZE);
+    }
+    if work.len() < 2 * n {
+        return Outcome::refused(Answer::WORK_SPACE);
+    }
+    if script.len() % Script::WORDS != 0 {
+        return Outcome::refused(Answer::SCRIPT);
+    }
+    if script.len() > Script::most() {
+        return Outcome::refused(Answer::SCRIPT);
+    }
+    if results.len() < 2 * (script.len() / Script::WORDS) {
+        return Outcome::refused(Answer::RESULTS);
+    }
+    let s = Shape { cells: n };
+    if !sound::is_sound(s, table, work) {
+        return Outcome::refused(Answer::UNSOUND);
+    }
+    perform_all(s, table, script, results)
+}
