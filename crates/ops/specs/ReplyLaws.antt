@@ -6,11 +6,10 @@ use native.Mathlib.Omega.{arith}
 use package.borrow.Author.Tests.{eqb-true, eqb-false}
 use lib.Dec.{eqb}
 use Rattle.answers.specs.Answers.{DONE}
-use Rattle.ops.specs.declared.Reply.{Reply}
 use Rattle.ops.specs.declared.Reply.the-variants.{Done, Refused}
 use Rattle.ops.specs.Replies.{said, reply}
 use Rattle.pool.specs.Pool.{Pool}
-use Rattle.pool.specs.Script.{Operation, Effect, refusal, effect}
+use Rattle.pool.specs.Script.{Operation, refusal, effect}
 
 pub record Did (p : Pool) (o : Operation) (k w : ℕ) : Type 0 where
   pub done : refusal p o ≡ DONE

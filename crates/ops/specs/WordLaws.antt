@@ -92,7 +92,7 @@ code-range o e =
     let (l, m) = and-both (leb PFA (o .code)) (leb (o .code) LENGTH) (not-false _ e) in
     (leb-true PFA (o .code) l, leb-true (o .code) LENGTH m)
 
--- the codes from below, one less each time
+-- for the last code: what is none of those below it is above them
 pub above : (c k : ℕ) → k ≤ c → c ≢ k → k + 1 ≤ c
 above c k l n = omega arith
 

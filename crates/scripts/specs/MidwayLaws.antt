@@ -10,7 +10,6 @@ use lib.Dec.{eqb}
 use lib.ListN.{length, getD, set, take, drop, length-set, take-append-drop, drop-of-length-le}
 use lib.Seq.{drop-cons, take-suc-set, drop-set-lt, length-take-le, drop-drop}
 use Rattle.answers.specs.Answers.{DONE, outcome}
-use Rattle.answers.specs.declared.Outcome.{Outcome}
 use Rattle.calls.specs.Entry.{over}
 use Rattle.calls.specs.Run.{operations}
 use Rattle.ops.specs.Replies.{Gives}
