@@ -23,6 +23,9 @@ textAt cs x = textOf (listAt cs x)
 abbrev pub Stands : List Cell → ℕ → Type 0
 Stands cs x = ListAt cs x (listAt cs x)
 
+abbrev pub measured : ℕ → ℕ → Measured
+measured n k = record { answer = n; size = k }
+
 pub record Measures (cs : List Cell) (x u : ℕ) (m : Measured) : Type 0 where
   pub answer : m .answer ≡ judged u 0 (textAt cs x)
   pub size : m .answer ≡ DONE → m .size ≡ length (textAt cs x)

@@ -2,7 +2,6 @@
 -- By induction on the digits: a number of n + 1 digits has n before its last.
 use Prim.Native.Nat.{ℕ, zero, suc, _+_, _-_, _*_, _/_, _%_, _^_, _≤_, _<_}
 use mathlib.Core.Path.{_≡_, refl, sym, ap, _∙_}
-use mathlib.Core.Logic.{_≢_}
 use mathlib.Core.List.{List, [], _∷_, _++_, append-assoc}
 use native.Mathlib.Nat.{mul-left-comm}
 use native.Mathlib.Omega.{arith}
@@ -18,7 +17,7 @@ use Rattle.text.specs.RoundTrip.{Under, under}
 use Rattle.text.specs.TextLaws.{by-case}
 use Rattle.writing.specs.Numeral.{numeral, lastDigits}
 
-pub length-last : (n w : ℕ) → length (lastDigits n w) ≡ n
+length-last : (n w : ℕ) → length (lastDigits n w) ≡ n
 unfolding lastDigits
 length-last zero w = refl
 length-last (suc n) w = omega (arith, length-append (lastDigits n (w / 8)) ((48 + w % 8) ∷ []), length-last n (w / 8))
@@ -80,13 +79,14 @@ pub one-digit : (v : ℕ) → v < 8 → numeral v ≡ (48 + v) ∷ []
 unfolding numeral
 one-digit v l = rw (lt-ltb v 8 l)
 
--- as the machine counts the bits above the highest
-pub digits-by-bit : (v : ℕ) → v ≢ 0 → v < atomsEnd → ((34 - leadingZeros 32 v) / 3 ≡ length (numeral v)) × (1 ≤ length (numeral v)) × (length (numeral v) ≤ digitsMost)
+-- as the machine counts the bits above the highest, of v or of v + 1, whichever is odd
+pub digits-by-bit : (v : ℕ) → v < atomsEnd → ((34 - leadingZeros 32 (v / 2 * 2 + 1)) / 3 ≡ length (numeral v)) × (length (numeral v) ≤ digitsMost)
 unfolding numeral
-digits-by-bit v n l =
-    let (j, e, lo, hi) = leading-top 32 v (omega arith) l in
-    let q = by-bit 10 v j (under v l) lo hi in
-    (omega arith, omega arith, omega arith)
+digits-by-bit v l = go (leading-top 32 (v / 2 * 2 + 1) (omega arith) (omega arith))
+  where
+    go : (j : ℕ) × (leadingZeros 32 (v / 2 * 2 + 1) + suc j ≡ 32) × (2 ^ j ≤ v / 2 * 2 + 1) × (v / 2 * 2 + 1 < 2 ^ suc j) → ((34 - leadingZeros 32 (v / 2 * 2 + 1)) / 3 ≡ length (numeral v)) × (length (numeral v) ≤ digitsMost)
+    go (zero, e, lo, hi) = let q = ap length (one-digit v (omega arith)) in (omega arith, omega arith)
+    go (suc i, e, lo, hi) = let q = by-bit 10 v (suc i) (under v l) (omega (arith, pow-add 2 1 i)) (omega arith) in (omega arith, omega arith)
 
 pub worked-out : (v n w : ℕ) (store : List ℕ) → v < atomsEnd → n ≡ length (numeral v) → 1 ≤ n → n ≤ digitsMost → w ≡ (v * 2 ^ (3 * (digitsMost - n))) % 2 ^ 64 → lastDigits digitsMost w ≡ store → take n store ≡ numeral v
 unfolding numeral

@@ -1,4 +1,4 @@
--- One byte put, and a store copied.
+-- Bytes put one after another: one, none, two runs, a store copied, blanks filled in.
 use Prim.Native.Nat.{ℕ, zero, suc, _+_, _-_, _≤_, _<_}
 use mathlib.Core.Path.{_≡_, refl, sym, ap, subst, _∙_}
 use mathlib.Core.List.{List, [], _∷_, _++_, append-nil, append-assoc}

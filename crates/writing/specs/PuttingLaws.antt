@@ -2,15 +2,15 @@
 use Prim.Native.Nat.{ℕ, _+_, _≤_, _<_}
 use mathlib.Core.Path.{_≡_, refl, sym, ap, subst, _∙_}
 use mathlib.Core.Logic.{_≢_}
-use mathlib.Core.List.{List, [], _∷_, _++_}
+use mathlib.Core.List.{List, _++_}
 use native.Mathlib.Omega.{arith}
 use lib.Dec.{leb}
-use lib.ListN.{length, take, drop, set, replicate, length-append, length-drop, take-append-drop}
+use lib.ListN.{length, take, drop, set, replicate, take-append-drop}
 use lib.Seq.{take-add, take-length, take-append-seam, drop-set-lt}
 use borrow.Author.Tests.{leb-true, leb-false}
+use Rattle.answers.specs.Answers.{DONE}
 use Rattle.calls.specs.Entry.{over}
 use Rattle.pool.specs.Pool.{Cell, kindOf}
-use Rattle.table.specs.declared.Shape.{Shape}
 use Rattle.text.specs.Limits.{levels}
 use Rattle.text.specs.ReadBack.{opens-body}
 use Rattle.text.specs.TextLaws.{decide}
@@ -20,9 +20,9 @@ use Rattle.writing.specs.Measures.{listAt, textAt, Stands, Fitting}
 use Rattle.writing.specs.Put.{Put, Roomy}
 use Rattle.writing.specs.PutLaws.{put-one}
 use Rattle.writing.specs.Putting.{Putting}
-use Rattle.writing.specs.Steps.{begun, Turn, shuts, passes, opens, Ready}
-use Rattle.writing.specs.Walking.{rest, Walking}
-use Rattle.writing.specs.WalkingLaws.{begins, Turned, turned, goes-on, too-deep, ready, ended}
+use Rattle.writing.specs.Steps.{begun, Turn, shuts, passes, opens}
+use Rattle.writing.specs.Walking.{rest}
+use Rattle.writing.specs.WalkingLaws.{begins, turned, inside, goes-on, too-deep, ended}
 
 -- a text has a first character
 pub some-text : (cs : List Cell) (x end : ℕ) → Fitting cs x end → 1 ≤ end
@@ -41,30 +41,27 @@ put-begins cs x end xs w h f l e =
 
 module _ (cs : List Cell) (t old : List ℕ) (end : ℕ) (out after : List ℕ) (w : Walk) (g : Putting cs t old end out after w) (some : 1 ≤ w .depth) where
   -- the level of "(" is allowed, as the text is judged whole
-  pub shallow : judged end 0 t ≡ 0 → w .at ≢ 0 → kindOf cs (w .at) ≢ 0 → w .depth < levels
+  pub shallow : judged end 0 t ≡ DONE → w .at ≢ 0 → kindOf cs (w .at) ≢ 0 → w .depth < levels
   shallow f n k =
       decide (leb levels (w .depth)) (w .depth < levels)
       (λ q. absurd (omega (arith, f, too-deep cs t end after w (g .walks) some n k (leb-true levels (w .depth) q))))
       (λ q. leb-false levels (w .depth) q)
 
-  within : (next : List ℕ) (r : Walk) (bs : List ℕ) → Turned cs t next w r bs → r .size ≤ length t
-  within next r bs d = omega (arith, d .size, d .more, ap length (d .text), length-drop (w .size) t, length-append bs (rest (d .opened)))
-
-  pub roomy : judged end 0 t ≡ 0 → end ≡ length t → Roomy cs after w end
+  pub roomy : judged end 0 t ≡ DONE → end ≡ length t → Roomy cs after w end
   roomy f e = record {
-    shuts = λ z. omega (arith, within after _ _ (turn after _ _ (shuts z refl refl)));
-    passes = λ n k. omega (arith, within after _ _ (turn after _ _ (passes n k refl refl)));
-    opens = λ n k. let d = turn _ _ _ (opens n k refl refl) in omega (arith, d .size, within _ _ _ d);
+    shuts = λ z. omega (arith, ends after _ _ (shuts z refl refl));
+    passes = λ n k. omega (arith, ends after _ _ (passes n k refl refl));
+    opens = λ n k. omega (arith, ends _ _ _ (opens n k refl refl));
   }
     where
-      turn : (next : List ℕ) (r : Walk) (bs : List ℕ) → Turn cs after w next r bs → Turned cs t next w r bs
-      turn next r bs u = turned cs t end after w (g .walks) some next r bs (shallow f) u
+      ends : (next : List ℕ) (r : Walk) (bs : List ℕ) → Turn cs after w next r bs → r .size ≤ length t
+      ends next r bs u = inside cs t end after w (g .walks) some next r bs (turned cs t end after w (g .walks) some next r bs (shallow f) u)
 
-  pub put-on : judged end 0 t ≡ 0 → end ≡ length t → (next : List ℕ) (r : Walk) (bs new : List ℕ) → Turn cs after w next r bs → Put out new (w .size) end bs
+  pub put-on : judged end 0 t ≡ DONE → end ≡ length t → (next : List ℕ) (r : Walk) (bs new : List ℕ) → Turn cs after w next r bs → Put out new (w .size) end bs
       → Putting cs t old end new next r × (r .size ≤ end) × (w .size < r .size)
   put-on f e next r bs new u p =
       let d = turned cs t end after w (g .walks) some next r bs (shallow f) u in
-      let fits : r .size ≤ end = omega (arith, within next r bs d) in
+      let fits : r .size ≤ end = omega (arith, inside cs t end after w (g .walks) some next r bs d) in
       let taken : take (w .size + length bs) t ≡ take (w .size) t ++ bs
       = take-add (w .size) (length bs) t ∙ ap (λ (b : List ℕ). take (w .size) t ++ b) (ap (take (length bs)) (d .text) ∙ take-append-seam bs (rest (d .opened))) in (
         record {

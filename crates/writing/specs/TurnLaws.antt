@@ -6,9 +6,10 @@ use mathlib.Core.Bool.{true, false, cond}
 use mathlib.Core.List.{List, [], _∷_, _++_, append-assoc}
 use native.Mathlib.Omega.{arith}
 use lib.Dec.{leb, leb·suc-suc}
-use lib.ListN.{length, getD, set, length-set}
+use lib.ListN.{length, getD, set}
 use lib.Seq.{getD-set-same, getD-set-other}
 use borrow.Author.Tests.{ne-eqb, lt-leb, le-leb}
+use Rattle.answers.specs.Answers.{OUTPUT}
 use Rattle.lists.specs.Lst.{Lst, nil, atom, list}
 use Rattle.pool.specs.Edit.{live-cell}
 use Rattle.pool.specs.Pool.{Cell, kindOf, elemOf, nextOf, Live, ListAt}
@@ -19,7 +20,7 @@ use Rattle.text.specs.Writing.{judged}
 use Rattle.text.specs.WritingLaws.{Plain, plain-append, plain-octal, judged-plain}
 use Rattle.writing.specs.Numeral.{numeral}
 use Rattle.writing.specs.Steps.{comma}
-use Rattle.writing.specs.Walking.{above, rest, Above, Here}
+use Rattle.writing.specs.Walking.{above, rest, Above, Here, Judges}
 
 -- the elements that follow another
 follows : (cs : List Cell) (x : ℕ) (l : Lst) → ListAt cs x l → items false l ≡ comma x ++ body l
@@ -34,7 +35,7 @@ going : (cs : List Cell) (x : ℕ) (l : Lst) (ls : List Lst) → ListAt cs x l �
 going cs x l ls h = ap (λ (t : List ℕ). t ++ above ls) (follows cs x l h) ∙ append-assoc (comma x) (body l) (above ls)
 
 -- the levels after a turn, with its characters bs
-abbrev pub Goes : List Cell → List ℕ → ℕ → ℕ → List Lst → List ℕ → Type 0
+abbrev Goes : List Cell → List ℕ → ℕ → ℕ → List Lst → List ℕ → Type 0
 Goes cs after x d opened bs = (next : List Lst) × (length next ≡ d) × Here cs after x next × (rest opened ≡ bs ++ rest next)
 
 module _ (cs : List Cell) (after : List ℕ) where
@@ -104,10 +105,6 @@ module _ (cs : List Cell) (after : List ℕ) where
   live-here (nil ∷ ls) x l h n = absurd (n (h .0))
   live-here (atom v k ∷ ls) x l h n = h .0 .0
   live-here (list m k ∷ ls) x l h n = h .0 .0
-
--- the judgement over the characters of a turn: all of them fit, or OUTPUT
-abbrev pub Judges : ℕ → ℕ → List ℕ → List ℕ → Type 0
-Judges d e bs t = (left : ℕ) → judged left d (bs ++ t) ≡ cond (leb (length bs) left) (judged (left - length bs) e t) 18
 
 plain-comma : (x : ℕ) → Plain (comma x)
 plain-comma zero = tt

@@ -1,12 +1,13 @@
 -- The walk begins behind the outermost "(", goes on by a turn as long as its characters fit, and ends with the text.
-use Prim.Native.Nat.{ℕ, zero, suc, _+_, _-_, _≤_, _<_}
+use Prim.Native.Nat.{ℕ, _+_, _-_, _≤_, _<_}
 use mathlib.Core.Path.{_≡_, refl, sym, ap, subst, _∙_}
 use mathlib.Core.Logic.{_≢_}
 use mathlib.Core.List.{List, [], _∷_, _++_, append-nil}
 use native.Mathlib.Omega.{arith}
-use lib.ListN.{length, getD, drop, set, replicate, length-append, length-drop, length-set}
+use lib.ListN.{length, drop, replicate, length-append, length-drop, length-set}
 use lib.Seq.{drop-drop, drop-append-seam, getD-set-other}
 use borrow.Author.Tests.{ne-eqb, le-leb, lt-leb}
+use Rattle.answers.specs.Answers.{DONE, DEEP, OUTPUT}
 use Rattle.lists.specs.Lst.{Lst}
 use Rattle.pool.specs.Edit.{live-cell}
 use Rattle.pool.specs.Pool.{Cell, kindOf, elemOf, nextOf}
@@ -21,8 +22,8 @@ use Rattle.writing.specs.Numeral.{numeral}
 use Rattle.writing.specs.NumeralLaws.{some-digits}
 use Rattle.writing.specs.Steps.{comma, begun, shutAt, passAt, openAt, keptAt, Turn, shuts, passes, opens, Ready}
 use Rattle.writing.specs.Measures.{listAt, textAt, Stands}
-use Rattle.writing.specs.Walking.{rest, Here, Levels, Walking}
-use Rattle.writing.specs.TurnLaws.{Goes, goes-shut, goes-pass, goes-open, opening, live-here, Judges, judges-shut, judges-pass, judges-open}
+use Rattle.writing.specs.Walking.{rest, Here, Levels, Walking, Judges, Turned}
+use Rattle.writing.specs.TurnLaws.{goes-shut, goes-pass, goes-open, opening, live-here, judges-shut, judges-pass, judges-open}
 
 pub begins : (cs : List Cell) (x u : ℕ) (w : Walk) → Stands cs x → 1 ≤ u → w ≡ begun x → Walking cs (textAt cs x) u (replicate levels 0) w
 begins cs x u w h l q =
@@ -36,15 +37,6 @@ begins cs x u w h l q =
       short = l;
       judges = ap (judged u 0) e ∙ rw (ne-eqb u 0 (λ z. omega arith));
     })
-
--- a turn in the text t
-pub record Turned (cs : List Cell) (t : List ℕ) (next : List ℕ) (w r : Walk) (bs : List ℕ) : Type 0 where
-  pub opened : List Lst
-  pub stands : Levels cs next r opened
-  pub more : 1 ≤ length bs
-  pub size : r .size ≡ w .size + length bs
-  pub text : drop (w .size) t ≡ bs ++ rest opened
-  pub judges : Judges (w .depth) (r .depth) bs (rest opened)
 
 module _ (cs : List Cell) (t : List ℕ) (u : ℕ) (after : List ℕ) (w : Walk) (g : Walking cs t u after w) (some : 1 ≤ w .depth) where
   shut-turned : w .at ≡ 0 → Turned cs t after w (shutAt after w) (41 ∷ comma (shutAt after w .at))
@@ -109,6 +101,9 @@ module _ (cs : List Cell) (t : List ℕ) (u : ℕ) (after : List ℕ) (w : Walk)
     came : judged u 0 t ≡ judged (u - w .size) (w .depth) (bs ++ rest (d .opened))
     came = g .judges ∙ ap (judged (u - w .size) (w .depth)) (sym (g .is) ∙ d .text)
 
+    pub inside : r .size ≤ length t
+    inside = omega (arith, d .size, d .more, ap length (d .text), length-drop (w .size) t, length-append bs (rest (d .opened)))
+
     pub goes-on : r .size ≤ u → Walking cs t u next r
     goes-on fits =
         let n : ℕ = length bs in
@@ -119,15 +114,15 @@ module _ (cs : List Cell) (t : List ℕ) (u : ℕ) (after : List ℕ) (w : Walk)
           opened = d .opened;
           stands = d .stands;
           is = behind;
-          within = omega (arith, d .size, d .more, ap length (d .text), length-drop (w .size) t, length-append bs (rest (d .opened)));
+          within = inside;
           short = fits;
           judges = came ∙ d .judges (u - w .size) ∙ rw (le-leb n (u - w .size) (omega (arith, d .size))) (ap (λ (j : ℕ). judged j (r .depth) (rest (d .opened))) k);
         }
 
-    pub overflows : u < r .size → judged u 0 t ≡ 18
+    pub overflows : u < r .size → judged u 0 t ≡ OUTPUT
     overflows l = came ∙ d .judges (u - w .size) ∙ rw (lt-leb (length bs) (u - w .size) (omega (arith, d .size, g .short)))
 
-  pub too-deep : w .at ≢ 0 → kindOf cs (w .at) ≢ 0 → levels ≤ w .depth → judged u 0 t ≡ 17
+  pub too-deep : w .at ≢ 0 → kindOf cs (w .at) ≢ 0 → levels ≤ w .depth → judged u 0 t ≡ DEEP
   too-deep n k h =
       let (tail, e) = opening cs after (g .opened) (w .at) (omega (arith, g .stands .deep)) (g .stands .here) n k in
       g .judges ∙ ap (judged (u - w .size) (w .depth)) e ∙ rw (le-leb levels (w .depth) h)
@@ -141,9 +136,9 @@ module _ (cs : List Cell) (t : List ℕ) (u : ℕ) (after : List ℕ) (w : Walk)
   ready s m h room = record { some = some; low = g .stands .low; short = omega (arith, g .short); cell = at-cell s m; room = room }
 
 -- no level is open any more
-pub ended : (cs : List Cell) (t : List ℕ) (u : ℕ) (after : List ℕ) (w : Walk) → Walking cs t u after w → w .depth ≡ 0 → (w .size ≡ length t) × (judged u 0 t ≡ 0)
+pub ended : (cs : List Cell) (t : List ℕ) (u : ℕ) (after : List ℕ) (w : Walk) → Walking cs t u after w → w .depth ≡ 0 → (w .size ≡ length t) × (judged u 0 t ≡ DONE)
 ended cs t u after w g e = none (g .opened) (g .stands .deep) (g .is) (g .judges)
   where
-    none : (opened : List Lst) → length opened ≡ w .depth → drop (w .size) t ≡ rest opened → judged u 0 t ≡ judged (u - w .size) (w .depth) (rest opened) → (w .size ≡ length t) × (judged u 0 t ≡ 0)
+    none : (opened : List Lst) → length opened ≡ w .depth → drop (w .size) t ≡ rest opened → judged u 0 t ≡ judged (u - w .size) (w .depth) (rest opened) → (w .size ≡ length t) × (judged u 0 t ≡ DONE)
     none [] d i j = (omega (arith, ap length i, length-drop (w .size) t, g .within), j)
     none (l ∷ ls) d i j = absurd (omega arith)

@@ -1,6 +1,6 @@
 -- What a call that writes gives at each return, against the definition of writing.
 use Prim.Native.Nat.{ℕ, _+_, _-_, _*_, _%_, _≤_, _<_}
-use mathlib.Core.Path.{_≡_, refl, sym, ap, subst, _∙_}
+use mathlib.Core.Path.{_≡_, sym, ap, subst, _∙_}
 use mathlib.Core.Logic.{_≢_}
 use mathlib.Core.Bool.{true, false}
 use mathlib.Core.List.{List, _++_}
@@ -22,12 +22,12 @@ use Rattle.pool.specs.SoundLaws.{denoted, sound-held}
 use Rattle.table.specs.Limits.{holdersMost}
 use Rattle.table.specs.Sizes.{cellsOf, cleared}
 use Rattle.table.specs.View.{shape, view}
-use Rattle.text.specs.Limits.{textMost}
+use Rattle.text.specs.Limits.{recordBytes, textMost}
 use Rattle.text.specs.ListText.{textOf, fill}
 use Rattle.text.specs.Writing.{usable, judged}
 use Rattle.text.specs.WritingLaws.{writable, writes}
 use Rattle.writing.specs.declared.walk.Measured.{Measured}
-use Rattle.writing.specs.Measures.{listAt, textAt, Stands, Measures, Fitting}
+use Rattle.writing.specs.Measures.{listAt, Stands, Measures, Fitting}
 use Rattle.writing.specs.Wrote.{wrote, recordEnd}
 
 -- a holder of a sound pool
@@ -66,7 +66,7 @@ module _ (l : Lst) (ws xs : List ℕ) (r : Outcome) where
       let t = textOf l in
       let blanks : List ℕ = replicate (e - n) 32 in
       let size : length blanks ≡ e - n = length-replicate {A = ℕ} (e - n) 32 in
-      let k : e - n ≡ (72 - length t % 72) % 72 = omega arith in
+      let k : e - n ≡ (recordBytes - length t % recordBytes) % recordBytes = omega arith in
       let is : blanks ≡ fill (length t) = ap (λ (i : ℕ). replicate i 32) k in
       let count : e ≡ length (t ++ blanks) = omega (arith, length-append t blanks) in
       let output : zs ≡ over (t ++ blanks) xs = f ∙ ap (λ (a : List ℕ). paste a n blanks (e - n)) o ∙ ap (λ (i : ℕ). paste (over t xs) i blanks (e - n)) m ∙ filled t xs blanks (e - n) size in

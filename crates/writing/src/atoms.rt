@@ -6,16 +6,15 @@ ghost use lib.Seq.{paste};
 ghost use Rattle.text.specs.Limits.{digitsMost};
 ghost use Rattle.writing.specs.Numeral.{numeral};
 ghost use Rattle.writing.specs.Put.{Put};
-use crate::limits::Digits;
+use scan::limits::Digits;
 
 // The number of digits, without leading zeros.
 pub fn count(v: u32) -> usize
     ensures { λ r. ⌜ (r ≡ length (numeral v)) × (1 ≤ r) × (r ≤ digitsMost) ⌝ }
 {
-    if v == 0 {
-        return 1;
-    }
-    ((34 - u32::leading_zeros(v)) / 3) as usize
+    // three bits to a digit, rounded up; of 0 as of 1
+    let odd = v / 2 * 2 + 1;
+    ((34 - u32::leading_zeros(odd)) / 3) as usize
 }
 
 // The n digits of v from the front of the store; behind them stand zeros.

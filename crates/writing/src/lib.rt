@@ -10,13 +10,12 @@ ghost use Rattle.text.specs.Limits.{textMost};
 ghost use Rattle.text.specs.Writing.{usable};
 ghost use Rattle.writing.specs.Measures.{listAt, Stands};
 ghost use Rattle.writing.specs.Wrote.{recordEnd, wrote};
-use crate::limits::Record;
 use answers::Answer;
 use answers::Outcome;
+use scan::limits::Record;
 use table::Shape;
 
 pub mod atoms;
-pub mod limits;
 pub mod put;
 pub mod walk;
 
@@ -66,6 +65,7 @@ fn write_list(s: Shape, t: &[u32], x: usize, out: &mut [u8]) -> Outcome
     Outcome::done(end as u32)
 }
 
+// Every refusal comes before a byte is written: 1, 2, 7, 5, then the earliest of 17 and 18.
 pub fn write(table: &[u32], work: &mut [u32], h: u32, out: &mut [u8]) -> Outcome
     ensures { λ r. ⌜ wrote r (now (work .exit)) (now (out .exit)) ≡ writeOut (now (table .entry)) (now (work .entry)) h (now (out .entry)) ⌝ }
 {

@@ -12,9 +12,10 @@ ghost use Rattle.writing.specs.Put.{Put, Roomy};
 ghost use Rattle.writing.specs.Steps.{comma, shutAt, passAt, Ready, Turn};
 ghost use Rattle.writing.specs.Measures.{Stands, Fitting, textAt};
 use crate::atoms;
-use crate::limits::Level;
 use crate::walk;
+use crate::walk::Kept;
 use crate::walk::Walk;
+use scan::limits::Level;
 use table::Shape;
 
 // "," before a further element: the last character so far.
@@ -29,7 +30,7 @@ fn part(out: &mut [u8], end: usize, w: Walk)
 }
 
 // ")"
-fn put_shut(after: &[usize; Level::MOST], out: &mut [u8], end: usize, w: Walk) -> Walk
+fn put_shut(after: &Kept, out: &mut [u8], end: usize, w: Walk) -> Walk
     requires { ⌜ (1 ≤ w .depth) × (w .depth ≤ levels) × (w .size ≤ textMost) ⌝ }
     requires { ⌜ (shutAt (now after) w .size ≤ end) × (end ≤ length (now out)) ⌝ }
     ensures { λ r. ⌜ (r ≡ shutAt (now (after .entry)) w) × Put (now (out .entry)) (now (out .exit)) (w .size) end (41 ∷ comma (r .at)) ⌝ }
@@ -49,20 +50,14 @@ fn put_pass(s: Shape, t: &[u32], out: &mut [u8], end: usize, w: Walk) -> Walk
     ensures { λ r. ⌜ (r ≡ passAt (view s (now (t .entry)) .cells) w) × Put (now (out .entry)) (now (out .exit)) (w .size) end (numeral (elemOf (view s (now (t .entry)) .cells) (w .at)) ++ comma (r .at)) ⌝ }
 {
     let v = table::elem_of(s, t, w.at);
-    atoms::put_atom(out, w.size, end, v);
     let r = walk::pass(s, t, w);
+    atoms::put_atom(out, w.size, end, v);
     part(out, end, r);
     r
 }
 
-fn put_step(
-    s: Shape,
-    t: &[u32],
-    after: &mut [usize; Level::MOST],
-    out: &mut [u8],
-    end: usize,
-    w: Walk,
-) -> Walk
+// As much of the text as a turn of the walk passes.
+fn put_step(s: Shape, t: &[u32], after: &mut Kept, out: &mut [u8], end: usize, w: Walk) -> Walk
     requires { ⌜ Table s (now t) ⌝ }
     requires { ⌜ Ready s (view s (now t) .cells) w ⌝ }
     requires { ⌜ Roomy (view s (now t) .cells) (now after) w end ⌝ }
@@ -90,7 +85,7 @@ pub fn put(s: Shape, t: &[u32], x: usize, out: &mut [u8], end: usize)
     ensures { λ r. ⌜ now (out .exit) ≡ over (textAt (view s (now (t .entry)) .cells) x) (now (out .entry)) ⌝ }
 {
     out[0] = b'(';
-    let mut after = [0; Level::MOST];
+    let mut after = [0; Level::MOST as usize];
     let mut w = Walk::begun(x);
     while w.depth > 0 {
         w = put_step(s, t, &mut after, out, end, w);

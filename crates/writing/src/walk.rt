@@ -1,5 +1,5 @@
-// The way through a list, character by character: the next cell, the levels that are open, and the characters passed.
-// Each open level has the cell with which it goes on kept in a local array.
+// The way through a list, from the first character of its text to the last, and the size of that text.
+// Where it stands is a cell, the number of open levels and that of the characters passed; each open level has the cell with which it goes on kept.
 ghost use mathlib.Core.Path.{_≡_};
 ghost use mathlib.Core.Bool.{_&&_};
 ghost use mathlib.Core.List.{List};
@@ -7,13 +7,14 @@ ghost use mathlib.Core.Logic.{_≢_};
 ghost use Prim.Native.Nat.{ℕ, _<_, _≤_};
 ghost use lib.Dec.{leb};
 ghost use lib.ListN.{length};
+ghost use Rattle.answers.specs.Answers.{DONE};
 ghost use Rattle.text.specs.Limits.{levels, textMost};
 ghost use Rattle.table.specs.View.{view, Table, IsCell};
 ghost use Rattle.writing.specs.Steps.{begun, comma, shutAt, passAt, openAt, keptAt, opensAt, Ready, Turn};
-ghost use Rattle.writing.specs.Measures.{Stands, Measures};
+ghost use Rattle.writing.specs.Measures.{Stands, measured, Measures};
 use crate::atoms;
-use crate::limits::Level;
 use answers::Answer;
+use scan::limits::Level;
 use table::Shape;
 
 // Where the next character comes from: a cell, or ")" at 0.
@@ -22,6 +23,9 @@ pub struct Walk {
     pub depth: usize,
     pub size: usize,
 }
+
+// The cell with which each open level goes on.
+pub type Kept = [usize; Level::MOST as usize];
 
 // What measuring says: DONE and the size of the text, or DEEP or OUTPUT.
 pub struct Measured {
@@ -42,6 +46,23 @@ impl Walk {
     }
 }
 
+impl Measured {
+    fn refused(answer: u32) -> Measured
+        ensures { λ r. ⌜ r ≡ measured answer 0 ⌝ }
+    {
+        Measured { answer, size: 0 }
+    }
+
+    fn done(size: usize) -> Measured
+        ensures { λ r. ⌜ r ≡ measured DONE size ⌝ }
+    {
+        Measured {
+            answer: Answer::DONE,
+            size,
+        }
+    }
+}
+
 // A further element has "," before it.
 fn commas(x: usize) -> usize
     ensures { λ r. ⌜ (r ≡ length (comma x)) × (r ≤ 1) ⌝ }
@@ -53,7 +74,7 @@ fn commas(x: usize) -> usize
 }
 
 // ")"
-pub fn shut(after: &[usize; Level::MOST], w: Walk) -> Walk
+pub fn shut(after: &Kept, w: Walk) -> Walk
     requires { ⌜ (1 ≤ w .depth) × (w .depth ≤ levels) × (w .size ≤ textMost) ⌝ }
     ensures { λ r. ⌜ r ≡ shutAt (now (after .entry)) w ⌝ }
 {
@@ -84,7 +105,7 @@ pub fn pass(s: Shape, t: &[u32], w: Walk) -> Walk
 }
 
 // "(" of an element
-pub fn open(s: Shape, t: &[u32], after: &mut [usize; Level::MOST], w: Walk) -> Walk
+pub fn open(s: Shape, t: &[u32], after: &mut Kept, w: Walk) -> Walk
     requires { ⌜ Table s (now t) ⌝ }
     requires { ⌜ IsCell s (w .at) ⌝ }
     requires { ⌜ (w .depth < levels) × (w .size ≤ textMost) ⌝ }
@@ -106,7 +127,7 @@ fn too_deep(s: Shape, t: &[u32], w: Walk) -> bool
     requires { ⌜ (w .at ≢ 0 → IsCell s (w .at)) ⌝ }
     ensures { λ r. ⌜ r ≡ (leb levels (w .depth) && opensAt (view s (now (t .entry)) .cells) (w .at)) ⌝ }
 {
-    if w.depth < Level::MOST {
+    if w.depth < Level::MOST as usize {
         return false;
     }
     let x = w.at;
@@ -116,7 +137,8 @@ fn too_deep(s: Shape, t: &[u32], w: Walk) -> bool
     table::kind_of(s, t, x) != 0
 }
 
-fn step(s: Shape, t: &[u32], after: &mut [usize; Level::MOST], w: Walk) -> Walk
+// The next character, or the digits of an atom, with "," if an element follows.
+fn step(s: Shape, t: &[u32], after: &mut Kept, w: Walk) -> Walk
     requires { ⌜ Table s (now t) ⌝ }
     requires { ⌜ Ready s (view s (now t) .cells) w ⌝ }
     ensures { λ r. ⌜ ((bs : List ℕ) × Turn (view s (now (t .entry)) .cells) (now (after .entry)) w (now (after .exit)) r bs) ⌝ }
@@ -139,30 +161,18 @@ pub fn measure(s: Shape, t: &[u32], x: usize, usable: usize) -> Measured
     ensures { λ r. ⌜ Measures (view s (now (t .entry)) .cells) x usable r ⌝ }
 {
     if usable == 0 {
-        return Measured {
-            answer: Answer::OUTPUT,
-            size: 0,
-        };
+        return Measured::refused(Answer::OUTPUT);
     }
-    let mut after = [0; Level::MOST];
+    let mut after = [0; Level::MOST as usize];
     let mut w = Walk::begun(x);
     while w.depth > 0 {
         if too_deep(s, t, w) {
-            return Measured {
-                answer: Answer::DEEP,
-                size: 0,
-            };
+            return Measured::refused(Answer::DEEP);
         }
         w = step(s, t, &mut after, w);
         if w.size > usable {
-            return Measured {
-                answer: Answer::OUTPUT,
-                size: 0,
-            };
+            return Measured::refused(Answer::OUTPUT);
         }
     }
-    Measured {
-        answer: Answer::DONE,
-        size: w.size,
-    }
+    Measured::done(w.size)
 }

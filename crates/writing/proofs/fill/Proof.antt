@@ -1,3 +1,4 @@
+-- `writing::fill` meets its contract. The invariant: blanks stand up to i.
 use Prim.Native.Nat.{ℕ, _-_, _≤_}
 use mathlib.Core.Path.{_≡_, sym, ap, _∙_}
 use native.Mathlib.Omega.{arith}
@@ -7,8 +8,6 @@ use lib.Seq.{paste, paste-zero}
 use Rattle.writing.specs.PutLaws.{fill-step, fill-length}
 use Rattle.writing.proofs.fill.Statement.{statement}
 use Rattle.writing.proofs.fill.Tie as tie
-use Rattle.writing.proofs.fill.Reads as reads
-use Rattle.writing.proofs.fill.Lts as lts
 
 abbrev Inv-loop : tie.InvT-loop
 Inv-loop out₀ from to i₀ out i = (from ≤ i) × (i ≤ to) × (out ≡ paste out₀ from (replicate (to - from) 32) (i - from))
@@ -16,31 +15,24 @@ Inv-loop out₀ from to i₀ out i = (from ≤ i) × (i ≤ to) × (out ≡ past
 abbrev μ-loop : tie.MeasureT-loop
 μ-loop out₀ from to i₀ out i = to - i
 
--- src/lib.rt:47:5
 loop-holds : tie.Need-loop-holds Inv-loop μ-loop
 loop-holds c = let a = c .args in let z : a .from - a .from ≡ 0 = omega arith in (omega arith, omega arith, paste-zero (a .out .now) (a .from) (replicate (a .to - a .from) 32) ∙ ap (paste (a .out .now) (a .from) (replicate (a .to - a .from) 32)) (sym z))
 
--- src/lib.rt:48:9
 slice-write-out : tie.Need-slice-write-out Inv-loop μ-loop
 slice-write-out c = let p = c .before .loop in let a = c .before .before .args in omega (arith, fill-length (a .out .now) (p .out) (a .from) (a .to) (p .i) (omega arith) (omega arith) (omega arith) (p .inv .2))
 
--- src/lib.rt:49:9
 add-i : tie.Need-add-i Inv-loop μ-loop
 add-i c = search needs
 
--- src/lib.rt:47:5
 loop-less : tie.Need-loop-less Inv-loop μ-loop
 loop-less c = search needs
 
--- src/lib.rt:47:5
 loop-again : tie.Need-loop-again Inv-loop μ-loop
 loop-again c = let p = c .before .loop in let a = c .before .before .args in (omega arith, omega arith, fill-step (a .out .now) (p .out) (a .from) (a .to) (p .i) (omega arith) (omega arith) (omega arith) (p .inv .2))
 
--- src/lib.rt:42:1
 same-length : tie.Need-same-length Inv-loop μ-loop
 same-length c = let p = c .before .loop in let a = c .before .before .args in fill-length (a .out .now) (p .out) (a .from) (a .to) (p .i) (omega arith) (omega arith) (omega arith) (p .inv .2)
 
--- src/lib.rt:42:1
 returns : tie.Need-returns Inv-loop μ-loop
 returns c = let p = c .before .loop in let a = c .before .before .args in let q : p .i ≡ a .to = omega arith in p .inv .2 ∙ ap (λ (k : ℕ). paste (a .out .now) (a .from) (replicate (a .to - a .from) 32) (k - a .from)) q
 

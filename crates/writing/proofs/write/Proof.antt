@@ -1,23 +1,16 @@
+-- `writing::write` meets its contract.
 use borrow.Author.Tests.{not-true, not-false}
-use Rattle.calls.specs.Write.{writeList}
-use Rattle.writing.specs.Measures.{listAt}
 use mathlib.Core.Path.{sym, ap, subst, _∙_}
 use Prim.Native.Nat.{ℕ}
 use native.Mathlib.Omega.{arith}
+use borrow.Author.Needs.{needs}
+use Rattle.calls.specs.Write.{writeList}
+use Rattle.writing.specs.Measures.{listAt}
 use Rattle.table.specs.SizesLaws.{cells-table}
 use Rattle.table.specs.View.{shape, view, Table}
 use Rattle.writing.specs.WroteLaws.{stands, no-table, no-space, no-holder, not-sound, accepted}
-use borrow.Author.Needs.{needs}
 use Rattle.writing.proofs.write.Statement.{statement}
 use Rattle.writing.proofs.write.Tie as tie
-use Rattle.writing.proofs.write.Reads as reads
-use Rattle.writing.proofs.write.Lts as lts
-use Rattle.answers.proofs.Outcome.refused.Reads as refused-reads
-use Rattle.sound.proofs.is_sound.Reads as is-sound-reads
-use Rattle.table.proofs.Shape.holders.Reads as holders-reads
-use Rattle.table.proofs.cells_of.Reads as cells-of-reads
-use Rattle.table.proofs.holder_of.Reads as holder-of-reads
-use Rattle.writing.proofs.write_list.Reads as write-list-reads
 
 tabled : (c : tie.Else1) → Table (shape (c .before .cells-of .result)) (c .before .before .before .before .before .args .table .now)
 tabled c =
@@ -25,75 +18,57 @@ tabled c =
     let e = c .before .cells-of .ensures in
     subst (λ (n : ℕ). Table (shape n) ts) (sym e) (cells-table ts (λ z. c .if1 .left (e ∙ z)))
 
--- src/lib.rt:72:9
 cells-of-requires : tie.Need-cells-of-requires
 cells-of-requires c κs = search needs
 
--- src/lib.rt:74:9
 refused-requires : tie.Need-refused-requires
 refused-requires c κs = search needs
 
--- src/lib.rt:74:9
 returns : tie.Need-returns
 returns c = let a = c .before .before .before .before .before .before .args in no-table (a .table .now) (a .work .now) (a .out .now) (a .h) (c .before .before .cells-of .result) (c .before .before .cells-of .ensures) (c .refused .result) (c .before .if1 .taken) (c .refused .ensures)
 
--- src/lib.rt:76:21
 mul-if2 : tie.Need-mul-if2
 mul-if2 c = let t = cells-table (c .before .before .before .before .before .args .table .now) (λ z. c .if1 .left (c .before .cells-of .ensures ∙ z)) in omega (arith, t .few, c .before .cells-of .ensures)
 
--- src/lib.rt:77:9
 refused-requires-2 : tie.Need-refused-requires-2
 refused-requires-2 c κs = search needs
 
--- src/lib.rt:77:9
 returns-2 : tie.Need-returns-2
 returns-2 c = let a = c .before .before .before .before .before .before .before .args in no-space (a .table .now) (a .work .now) (a .out .now) (a .h) (c .before .before .before .cells-of .result) (c .before .before .before .cells-of .ensures) (c .refused2 .result) (c .before .before .if1 .left) (c .before .if2 .taken) (c .refused2 .ensures)
 
--- src/lib.rt:80:22
 holders-requires : tie.Need-holders-requires
 holders-requires c κs = search needs
 
--- src/lib.rt:81:9
 refused-requires-3 : tie.Need-refused-requires-3
 refused-requires-3 c κs = search needs
 
--- src/lib.rt:81:9
 returns-3 : tie.Need-returns-3
 returns-3 c = let a = c .before .before .before .before .before .before .before .before .before .args in no-holder (a .table .now) (a .work .now) (a .out .now) (a .h) (c .before .before .before .before .before .cells-of .result) (c .before .before .before .before .before .cells-of .ensures) (c .refused3 .result) (c .before .before .before .before .if1 .left) (c .before .before .before .if2 .left) (omega (arith, c .before .if3 .taken, c .before .before .holders .ensures)) (c .refused3 .ensures)
 
--- src/lib.rt:83:9
 is-sound-requires : tie.Need-is-sound-requires
 is-sound-requires c κs = (tabled (c .before .before .before .before), c .before .before .before .if2 .left)
 
--- src/lib.rt:84:9
 refused-requires-4 : tie.Need-refused-requires-4
 refused-requires-4 c κs = search needs
 
--- src/lib.rt:84:9
 same-length : tie.Need-same-length
 same-length c = search needs
 
--- src/lib.rt:84:9
 returns-4 : tie.Need-returns-4
 returns-4 c = let a = c .before .before .before .before .before .before .before .before .before .before .before .before .before .before .args in not-sound (a .table .now) (a .work .now) (a .out .now) (a .h) (c .before .before .before .before .before .before .before .before .before .before .cells-of .result) (c .before .before .before .before .before .before .before .before .before .before .cells-of .ensures) (c .refused4 .result) (c .before .before .before .before .before .before .before .before .before .if1 .left) (c .before .before .before .before .before .before .before .before .if2 .left) (omega (arith, c .before .before .before .before .before .before .if3 .left, c .before .before .before .before .before .before .before .holders .ensures)) _ (c .before .before .before .before .is-sound .ensures .work) (sym (c .before .before .before .before .is-sound .ensures .answer) ∙ not-true _ (c .before .if4 .taken)) (c .refused4 .ensures)
 
--- src/lib.rt:86:9
 holder-of-requires : tie.Need-holder-of-requires
 holder-of-requires c κs = (tabled (c .before .before .before .before .before .before .before .before), omega (arith, c .before .before .before .before .before .if3 .left, c .before .before .before .before .before .before .holders .ensures))
 
--- src/lib.rt:87:5
 write-list-requires : tie.Need-write-list-requires
 write-list-requires c κs = (tabled (c .before .before .before .before .before .before .before .before .before .before), stands _ (c .before .before .before .before .before .before .before .before .before .before .before .before .before .before .before .args .h) _ (c .before .before .before .before .before .is-sound .ensures .sound .0 (not-false _ (c .before .before .if4 .left))) (c .before .holder-of .ensures .0))
 
--- src/lib.rt:69:1
 same-length-2 : tie.Need-same-length-2
 same-length-2 c = search needs
 
--- src/lib.rt:69:1
 same-length-3 : tie.Need-same-length-3
 same-length-3 c = search needs
 
--- src/lib.rt:69:1
 returns-5 : tie.Need-returns-5
 returns-5 c =
     let a = c .before .before .before .before .before .before .before .before .before .before .before .before .before .before .before .before .before .before .args in

@@ -1,25 +1,17 @@
+-- `writing::write_list` meets its contract.
 use Prim.Native.Nat.{ℕ, _≤_}
 use mathlib.Core.Path.{sym, ap, _∙_}
 use native.Mathlib.Omega.{arith}
 use lib.ListN.{length}
+use borrow.Author.Needs.{needs}
 use Rattle.table.specs.View.{view}
 use Rattle.text.specs.Limits.{textMost}
 use Rattle.text.specs.Writing.{judged}
 use Rattle.writing.specs.Measures.{listAt, textAt, Fitting}
 use Rattle.writing.specs.Wrote.{recordEnd}
 use Rattle.writing.specs.WroteLaws.{fitting, list-refused, list-done}
-use borrow.Author.Needs.{needs}
 use Rattle.writing.proofs.write_list.Statement.{statement}
 use Rattle.writing.proofs.write_list.Tie as tie
-use Rattle.writing.proofs.write_list.Reads as reads
-use Rattle.writing.proofs.write_list.Lts as lts
-use Rattle.answers.proofs.Outcome.done.Reads as done-reads
-use Rattle.answers.proofs.Outcome.refused.Reads as refused-reads
-use Rattle.writing.proofs.fill.Reads as fill-reads
-use Rattle.writing.proofs.put.put.Reads as put-reads
-use Rattle.writing.proofs.record_end.Reads as record-end-reads
-use Rattle.writing.proofs.usable.Reads as usable-reads
-use Rattle.writing.proofs.walk.measure.Reads as measure-reads
 
 -- what was measured has room
 fits : (c : tie.Else1) → let a = c .before .before .before .before .before .before .args in let n = c .before .before .measure .result .size in
@@ -29,19 +21,15 @@ fits c =
     let m = c .before .before .measure in
     fitting (view (a .s) (a .t .now) .cells) (a .x) (c .before .before .before .usable .result) (length (a .out .now)) (m .result) (m .ensures) (c .before .before .before .usable .ensures) (c .if1 .left)
 
--- src/lib.rt:59:36
 usable-requires : tie.Need-usable-requires
 usable-requires c κs = search needs
 
--- src/lib.rt:59:9
 measure-requires : tie.Need-measure-requires
 measure-requires c κs = search needs
 
--- src/lib.rt:61:9
 refused-requires : tie.Need-refused-requires
 refused-requires c κs = search needs
 
--- src/lib.rt:61:9
 returns : tie.Need-returns
 returns c =
     let a = c .before .before .before .before .before .before .before .args in
@@ -49,15 +37,12 @@ returns c =
     let m = c .before .before .before .measure in
     λ ws. list-refused (listAt cs (a .x)) ws (a .out .now) (c .refused .result) (m .result .answer) (m .ensures .answer ∙ ap (λ (u : ℕ). judged u 0 (textAt cs (a .x))) (c .before .before .before .before .usable .ensures)) (c .before .if1 .taken) (c .refused .ensures)
 
--- src/lib.rt:63:5
 put-requires : tie.Need-put-requires
 put-requires c κs = let f = fits (c .before) in let p = c .before .before .before .before .before .before .before .pre in (p .0, (p .1, (f .0, omega (arith, f .1))))
 
--- src/lib.rt:64:9
 record-end-requires : tie.Need-record-end-requires
 record-end-requires c κs = fits (c .before .before .before .before) .0 .short
 
--- src/lib.rt:65:5
 fill-requires : tie.Need-fill-requires
 fill-requires c κs =
     let f = fits (c .before .before .before .before .before .before) in
@@ -65,19 +50,15 @@ fill-requires c κs =
     let n = c .before .before .before .before .put .kept in
     (omega (arith, e), omega (arith, e, f .1, n))
 
--- src/lib.rt:66:19
 cast-done : tie.Need-cast-done
 cast-done c = omega (arith, fits (c .before .before .before .before .before .before .before .before .before) .2, c .before .before .before .before .record-end .ensures)
 
--- src/lib.rt:66:5
 done-requires : tie.Need-done-requires
 done-requires c κs = search needs
 
--- src/lib.rt:54:1
 same-length : tie.Need-same-length
 same-length c = search needs
 
--- src/lib.rt:54:1
 returns-2 : tie.Need-returns-2
 returns-2 c =
     let a = c .before .before .before .before .before .before .before .before .before .before .before .before .before .before .before .before .args in

@@ -1,29 +1,26 @@
-use lib.Count.{leading-le}
+-- `writing::atoms::count` meets its contract.
+use Prim.Native.Nat.{_+_, _*_, _/_}
 use native.Mathlib.Omega.{arith}
-use mathlib.Core.Path.{ap, sym}
-use lib.ListN.{length}
-use Rattle.writing.specs.NumeralLaws.{digits-by-bit, one-digit}
+use lib.Count.{leading-le}
 use borrow.Author.Needs.{needs}
+use Rattle.writing.specs.NumeralLaws.{digits-by-bit, some-digits}
 use Rattle.writing.proofs.atoms.count.Statement.{statement}
 use Rattle.writing.proofs.atoms.count.Tie as tie
-use Rattle.writing.proofs.atoms.count.Reads as reads
-use Rattle.writing.proofs.atoms.count.Lts as lts
 
--- src/atoms.rt:16:9
-returns : tie.Need-returns
-returns c = (sym (ap length (one-digit (c .before .args .v) (omega arith))), omega arith, omega arith)
+mul-odd : tie.Need-mul-odd
+mul-odd c = search needs
 
--- src/atoms.rt:18:7
+add-odd : tie.Need-add-odd
+add-odd c = search needs
+
 sub-result : tie.Need-sub-result
-sub-result c = omega (arith, leading-le 32 (c .before .args .v))
+sub-result c = omega (arith, leading-le 32 (c .args .v / 2 * 2 + 1))
 
--- src/atoms.rt:18:5
 cast-result : tie.Need-cast-result
 cast-result c = search needs
 
--- src/atoms.rt:12:1
-returns-2 : tie.Need-returns-2
-returns-2 c = let q = digits-by-bit (c .before .args .v) (c .if1 .left) (omega arith) in (q .0, omega (arith, q .0, q .1), omega (arith, q .0, q .2))
+returns : tie.Need-returns
+returns c = let q = digits-by-bit (c .args .v) (omega arith) in (q .0, omega (arith, q .0, some-digits (c .args .v)), omega (arith, q .0, q .1))
 
 pub count-spec : {M : Type 1} → statement M
-count-spec = tie.close (tie.spec returns sub-result cast-result returns-2)
+count-spec = tie.close (tie.spec mul-odd add-odd sub-result cast-result returns)

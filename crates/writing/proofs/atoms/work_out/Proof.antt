@@ -1,16 +1,15 @@
+-- `writing::atoms::work_out` meets its contract. The invariant: the digits that are still to come, and the store from i on, are all eleven.
 use mathlib.Core.List.{_++_, append-nil}
 use mathlib.Core.Path.{_≡_, refl, sym, _∙_}
 use lib.ListN.{length, drop, length-set}
-use Rattle.writing.specs.Numeral.{lastDigits}
-use Rattle.writing.specs.NumeralLaws.{last-step, none-left, worked-out}
 use Prim.Native.Nat.{_+_, _%_, _≤_, _-_}
 use native.Mathlib.Omega.{arith}
 use borrow.Author.Needs.{needs}
+use Rattle.writing.specs.Numeral.{lastDigits}
+use Rattle.writing.specs.NumeralLaws.{last-step, none-left, worked-out}
 use Rattle.text.specs.Limits.{digitsMost}
 use Rattle.writing.proofs.atoms.work_out.Statement.{statement}
 use Rattle.writing.proofs.atoms.work_out.Tie as tie
-use Rattle.writing.proofs.atoms.work_out.Reads as reads
-use Rattle.writing.proofs.atoms.work_out.Lts as lts
 
 abbrev Inv-loop : tie.InvT-loop
 Inv-loop v n store₀ left₀ i₀ store left i =
@@ -19,47 +18,36 @@ Inv-loop v n store₀ left₀ i₀ store left i =
 abbrev μ-loop : tie.MeasureT-loop
 μ-loop v n store₀ left₀ i₀ store left i = i
 
--- src/atoms.rt:27:40
 sub-left : tie.Need-sub-left Inv-loop μ-loop
 sub-left c = search needs
 
--- src/atoms.rt:27:35
 mul-left : tie.Need-mul-left Inv-loop μ-loop
 mul-left c = search needs
 
--- src/atoms.rt:27:20
 shl-left : tie.Need-shl-left Inv-loop μ-loop
 shl-left c = search needs
 
--- src/atoms.rt:29:5
 loop-holds : tie.Need-loop-holds Inv-loop μ-loop
 loop-holds c = (omega arith, refl, sym (append-nil _))
 
--- src/atoms.rt:30:9
 sub-i : tie.Need-sub-i Inv-loop μ-loop
 sub-i c = search needs
 
--- src/atoms.rt:31:27
 cast-store : tie.Need-cast-store Inv-loop μ-loop
 cast-store c = search needs
 
--- src/atoms.rt:31:20
 add-store : tie.Need-add-store Inv-loop μ-loop
 add-store c = search needs
 
--- src/atoms.rt:31:9
 array-write-store : tie.Need-array-write-store Inv-loop μ-loop
 array-write-store c = search needs
 
--- src/atoms.rt:29:5
 loop-less : tie.Need-loop-less Inv-loop μ-loop
 loop-less c = search needs
 
--- src/atoms.rt:29:5
 loop-again : tie.Need-loop-again Inv-loop μ-loop
 loop-again c = let p = c .before .loop in (omega arith, length-set (p .store) (p .i - 1) (48 + p .left % 8) ∙ p .inv .1, last-step (p .i) (p .left) (p .store) _ (omega arith) (omega arith) (p .inv .2))
 
--- src/atoms.rt:22:1
 returns : tie.Need-returns Inv-loop μ-loop
 returns c = let p = c .before .loop in let z : p .i ≡ 0 = omega arith in let a = c .before .before .args in (p .inv .1, worked-out (a .v) (a .n) _ (p .store) (omega arith) (c .before .before .pre .0) (omega arith) (omega arith) refl (p .inv .2 ∙ none-left (p .i) (p .left) (p .store) z))
 

@@ -1,29 +1,23 @@
+-- `writing::put::part` meets its contract.
 use native.Mathlib.Omega.{arith}
+use borrow.Author.Needs.{needs}
 use Rattle.writing.specs.PutLaws.{put-comma, no-comma}
 use Rattle.writing.specs.StepLaws.{one-comma}
-use borrow.Author.Needs.{needs}
 use Rattle.writing.proofs.put.part.Statement.{statement}
 use Rattle.writing.proofs.put.part.Tie as tie
-use Rattle.writing.proofs.put.part.Reads as reads
-use Rattle.writing.proofs.put.part.Lts as lts
 
--- src/put.rt:26:18
 sub-at : tie.Need-sub-at
 sub-at c = omega (arith, one-comma (c .before .before .before .args .w .at) (c .before .if1 .taken))
 
--- src/put.rt:27:9
 slice-write-out : tie.Need-slice-write-out
 slice-write-out c = omega (arith, one-comma (c .before .before .before .args .w .at) (c .before .if1 .taken))
 
--- src/put.rt:21:1
 same-length : tie.Need-same-length
 same-length c = search needs
 
--- src/put.rt:21:1
 returns : tie.Need-returns
 returns c = put-comma _ (c .before .before .before .args .w .at) _ _ (c .before .if1 .taken) (omega arith) (omega arith) (omega arith)
 
--- src/put.rt:21:1
 returns-2 : tie.Need-returns-2
 returns-2 c = no-comma _ (c .before .before .args .w .at) (c .before .before .args .w .size) _ (c .if1 .left)
 

@@ -1,3 +1,4 @@
+-- `writing::put::put` meets its contract. The invariant: the characters that the walk has passed are in their places. Each turn passes one, so that those left fall.
 use Prim.Native.Nat.{_-_, _≤_, _<_}
 use mathlib.Core.Path.{_∙_}
 use native.Mathlib.Omega.{arith}
@@ -10,10 +11,6 @@ use Rattle.writing.specs.PuttingLaws.{some-text, put-begins, shallow, ro
 use Rattle.writing.specs.WalkingLaws.{ready}
 use Rattle.writing.proofs.put.put.Statement.{statement}
 use Rattle.writing.proofs.put.put.Tie as tie
-use Rattle.writing.proofs.put.put.Reads as reads
-use Rattle.writing.proofs.put.put.Lts as lts
-use Rattle.writing.proofs.put.put_step.Reads as put-step-reads
-use Rattle.writing.proofs.walk.Walk.begun.Reads as begun-reads
 
 abbrev Inv-loop : tie.InvT-loop
 Inv-loop s t x out₀ end after₀ w₀ out after w = Putting (view s t .cells) (textAt (view s t .cells) x) out₀ end out after w
@@ -30,19 +27,15 @@ went c =
     let f = c .before .before .before .before .before .before .before .before .before .pre .1 .1 .0 in
     put-on _ _ _ _ (p .out) (p .after) (p .w) (p .inv) (omega arith) (f .fits) (f .size) _ _ _ _ (c .put-step .ensures .1) (c .put-step .ensures .2)
 
--- src/put.rt:85:5
 slice-write-out : tie.Need-slice-write-out Inv-loop μ-loop
 slice-write-out c = omega (arith, some-text _ _ _ (c .before .before .pre .1 .1 .0))
 
--- src/put.rt:87:9
 begun-requires : tie.Need-begun-requires Inv-loop μ-loop
 begun-requires c κs = search needs
 
--- src/put.rt:88:5
 loop-holds : tie.Need-loop-holds Inv-loop μ-loop
 loop-holds c = let q = c .before .before .before .pre in put-begins _ _ _ (c .before .before .before .args .out .now) _ (q .1 .0) (q .1 .1 .0) (q .1 .1 .1) (c .begun .ensures)
 
--- src/put.rt:89:9
 put-step-requires : tie.Need-put-step-requires Inv-loop μ-loop
 put-step-requires c κs =
     let p = c .before .before .before .before .loop in
@@ -51,19 +44,15 @@ put-step-requires c κs =
     let g = p .inv in
     (q .0, (ready _ _ _ (p .after) (p .w) (g .walks) (omega arith) _ (q .0 .measured) (f .short) (shallow _ _ _ _ (p .out) (p .after) (p .w) g (omega arith) (f .fits)), (roomy _ _ _ _ (p .out) (p .after) (p .w) g (omega arith) (f .fits) (f .size), omega (arith, g .room, length-set (c .before .before .before .before .before .before .before .before .args .out .now) 0 40))))
 
--- src/put.rt:88:5
 loop-less : tie.Need-loop-less Inv-loop μ-loop
 loop-less c = let q = went (c .before .before) in omega (arith, q .1, q .2)
 
--- src/put.rt:88:5
 loop-again : tie.Need-loop-again Inv-loop μ-loop
 loop-again c = went (c .before .before) .0
 
--- src/put.rt:78:1
 same-length : tie.Need-same-length Inv-loop μ-loop
 same-length c = let p = c .before .before .loop in p .inv .room ∙ length-set (c .before .before .before .before .before .before .args .out .now) 0 40
 
--- src/put.rt:78:1
 returns : tie.Need-returns Inv-loop μ-loop
 returns c = let p = c .before .before .loop in put-ends _ _ _ _ (p .out) (p .after) (p .w) (p .inv) (c .before .before .before .before .before .before .pre .1 .1 .0) (omega arith)
 

@@ -1,37 +1,29 @@
+-- `writing::put::put_shut` meets its contract.
 use native.Mathlib.Omega.{arith}
 use mathlib.Core.Path.{_∙_}
 use mathlib.Core.List.{[], _∷_}
 use lib.ListN.{length-set}
+use borrow.Author.Needs.{needs}
 use Rattle.writing.specs.PutLaws.{put-one, put-then}
 use Rattle.writing.specs.StepLaws.{shut-size}
-use borrow.Author.Needs.{needs}
 use Rattle.writing.proofs.put.put_shut.Statement.{statement}
 use Rattle.writing.proofs.put.put_shut.Tie as tie
-use Rattle.writing.proofs.put.put_shut.Reads as reads
-use Rattle.writing.proofs.put.put_shut.Lts as lts
-use Rattle.writing.proofs.put.part.Reads as part-reads
-use Rattle.writing.proofs.walk.shut.Reads as shut-reads
 
--- src/put.rt:38:5
 slice-write-out : tie.Need-slice-write-out
 slice-write-out c = search needs
 
--- src/put.rt:39:9
 shut-requires : tie.Need-shut-requires
 shut-requires c κs = search needs
 
--- src/put.rt:40:5
 part-requires : tie.Need-part-requires
 part-requires c κs =
     let a = c .before .before .before .args in
     let q = shut-size (a .after .now) (a .w) (c .before .shut .result) (c .before .shut .ensures) in
     (omega (arith, q .0), omega (arith, q .1), simp length-set (omega arith))
 
--- src/put.rt:32:1
 same-length : tie.Need-same-length
 same-length c = let a = c .before .before .before .before .before .before .args in c .before .before .part .ensures .room ∙ length-set (a .out .now) (a .w .size) 41
 
--- src/put.rt:32:1
 returns : tie.Need-returns
 returns c =
     let a = c .before .before .before .before .before .before .args in

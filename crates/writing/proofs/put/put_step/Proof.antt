@@ -1,37 +1,27 @@
+-- `writing::put::put_step` meets its contract.
 use mathlib.Core.Logic.{_≢_}
-use Rattle.pool.specs.Pool.{kindOf}
-use Rattle.table.specs.View.{view}
 use native.Mathlib.Omega.{arith}
 use mathlib.Core.Path.{refl, sym, _∙_}
+use borrow.Author.Needs.{needs}
+use Rattle.pool.specs.Pool.{kindOf}
+use Rattle.table.specs.View.{view}
 use Rattle.writing.specs.Steps.{shuts, passes, opens}
 use Rattle.writing.specs.PutLaws.{put-one}
-use borrow.Author.Needs.{needs}
 use Rattle.writing.proofs.put.put_step.Statement.{statement}
 use Rattle.writing.proofs.put.put_step.Tie as tie
-use Rattle.writing.proofs.put.put_step.Reads as reads
-use Rattle.writing.proofs.put.put_step.Lts as lts
-use Rattle.table.proofs.kind_of.Reads as kind-of-reads
-use Rattle.writing.proofs.put.put_pass.Reads as put-pass-reads
-use Rattle.writing.proofs.put.put_shut.Reads as put-shut-reads
-use Rattle.writing.proofs.walk.open.Reads as open-reads
 
--- src/put.rt:67:9
 put-shut-requires : tie.Need-put-shut-requires
 put-shut-requires c κs = let p = c .before .before .before .before .before .pre in ((p .1 .0 .some, p .1 .0 .low, p .1 .0 .short), (p .1 .1 .0 .shuts (c .before .before .if1 .taken), p .1 .1 .1))
 
--- src/put.rt:67:9
 same-length : tie.Need-same-length
 same-length c = search needs
 
--- src/put.rt:67:9
 returns : tie.Need-returns
 returns c = (_, shuts (c .before .before .before .before .before .if1 .taken) (c .before .before .put-shut .ensures .0) refl, c .before .before .put-shut .ensures .1)
 
--- src/put.rt:69:8
 kind-of-requires : tie.Need-kind-of-requires
 kind-of-requires c κs = (c .before .before .before .pre .0, c .before .before .before .pre .1 .0 .cell (c .if1 .left))
 
--- src/put.rt:70:9
 put-pass-requires : tie.Need-put-pass-requires
 put-pass-requires c κs =
     let p = c .before .before .before .before .before .before .pre in
@@ -39,30 +29,24 @@ put-pass-requires c κs =
     let k = sym (c .before .before .kind-of .ensures) ∙ c .before .if2 .taken in
     (p .0, (p .1 .0 .cell n, (p .1 .0 .short, p .1 .1 .0 .passes n k, p .1 .1 .1)))
 
--- src/put.rt:70:9
 same-length-2 : tie.Need-same-length-2
 same-length-2 c = search needs
 
--- src/put.rt:70:9
 returns-2 : tie.Need-returns-2
 returns-2 c = (_, passes (c .before .before .before .before .before .before .if1 .left) (sym (c .before .before .before .before .before .kind-of .ensures) ∙ c .before .before .before .before .if2 .taken) (c .before .before .put-pass .ensures .0) refl, c .before .before .put-pass .ensures .1)
 
--- src/put.rt:73:5
 slice-write-out : tie.Need-slice-write-out
 slice-write-out c = omega (arith, c .before .before .before .before .before .pre .1 .1 .0 .opens (c .before .before .if1 .left) (λ q. c .if2 .left (c .before .kind-of .ensures ∙ q)))
 
--- src/put.rt:74:5
 open-requires : tie.Need-open-requires
 open-requires c κs =
     let p = c .before .before .before .before .before .before .pre in
     let n = c .before .before .before .if1 .left in
     (p .0, (p .1 .0 .cell n, (p .1 .0 .room n (λ q. c .before .if2 .left (c .before .before .kind-of .ensures ∙ q)), p .1 .0 .short)))
 
--- src/put.rt:58:1
 same-length-3 : tie.Need-same-length-3
 same-length-3 c = search needs
 
--- src/put.rt:58:1
 returns-3 : tie.Need-returns-3
 returns-3 c =
     let a = c .before .before .before .before .before .before .before .args in

@@ -1,16 +1,13 @@
-use Rattle.writing.specs.StepLaws.{one-comma}
+-- `writing::walk::commas` meets its contract.
 use native.Mathlib.Omega.{arith}
 use borrow.Author.Needs.{needs}
+use Rattle.writing.specs.StepLaws.{one-comma}
 use Rattle.writing.proofs.walk.commas.Statement.{statement}
 use Rattle.writing.proofs.walk.commas.Tie as tie
-use Rattle.writing.proofs.walk.commas.Reads as reads
-use Rattle.writing.proofs.walk.commas.Lts as lts
 
--- src/walk.rt:50:9
 returns : tie.Need-returns
 returns c = search needs
 
--- src/walk.rt:46:1
 returns-2 : tie.Need-returns-2
 returns-2 c = (one-comma _ (c .if1 .left), omega arith)
 

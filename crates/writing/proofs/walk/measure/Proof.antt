@@ -1,23 +1,20 @@
+-- `writing::walk::measure` meets its contract. The invariant: where the walk stands in the text. Each turn passes a character, so that the usable ones left fall.
 use Prim.Native.Nat.{_-_, _<_}
 use mathlib.Core.Path.{sym, _∙_}
 use mathlib.Core.Logic.{_≢_}
 use native.Mathlib.Omega.{arith}
 use borrow.Author.Needs.{needs}
+use Rattle.answers.specs.Answers.{DEEP, OUTPUT}
 use Rattle.pool.specs.Pool.{kindOf}
 use Rattle.table.specs.View.{view}
 use Rattle.text.specs.Limits.{levels}
 use Rattle.writing.specs.Measures.{textAt}
-use Rattle.writing.specs.Walking.{Walking}
+use Rattle.writing.specs.Walking.{Walking, Turned}
 use Rattle.writing.specs.StepLaws.{full, roomy}
-use Rattle.writing.specs.WalkingLaws.{begins, Turned, turned, goes-on, overflows, too-deep, at-cell, ready}
+use Rattle.writing.specs.WalkingLaws.{begins, turned, goes-on, overflows, too-deep, at-cell, ready}
 use Rattle.writing.specs.MeasureLaws.{no-room, refuses, sizes}
 use Rattle.writing.proofs.walk.measure.Statement.{statement}
 use Rattle.writing.proofs.walk.measure.Tie as tie
-use Rattle.writing.proofs.walk.measure.Reads as reads
-use Rattle.writing.proofs.walk.measure.Lts as lts
-use Rattle.writing.proofs.walk.Walk.begun.Reads as begun-reads
-use Rattle.writing.proofs.walk.step.Reads as step-reads
-use Rattle.writing.proofs.walk.too_deep.Reads as too-deep-reads
 
 abbrev Inv-loop : tie.InvT-loop
 Inv-loop s t x usable after₀ w₀ after w = Walking (view s t .cells) (textAt (view s t .cells) x) usable after w
@@ -37,45 +34,47 @@ went c =
     let p = c .before .before .before .before .before .before .loop in
     turned _ _ _ (p .after) (p .w) (p .inv) (omega arith) _ (c .step .result) _ (room (c .before)) (c .step .ensures .1)
 
--- src/walk.rt:142:9
-returns : tie.Need-returns Inv-loop μ-loop
-returns c = let a = c .before .before .args in let cs = view (a .s) (a .t .now) .cells in refuses cs (a .x) (a .usable) 18 (no-room cs (a .x) (a .usable) (c .if1 .taken)) (λ q. omega arith)
+refused-requires : tie.Need-refused-requires Inv-loop μ-loop
+refused-requires c κs = search needs
 
--- src/walk.rt:148:9
+returns : tie.Need-returns Inv-loop μ-loop
+returns c = let a = c .before .before .before .args in let cs = view (a .s) (a .t .now) .cells in refuses cs (a .x) (a .usable) OUTPUT _ (no-room cs (a .x) (a .usable) (c .before .if1 .taken)) (λ q. omega arith) (c .refused .ensures)
+
 begun-requires : tie.Need-begun-requires Inv-loop μ-loop
 begun-requires c κs = search needs
 
--- src/walk.rt:149:5
 loop-holds : tie.Need-loop-holds Inv-loop μ-loop
 loop-holds c = begins _ _ _ _ (c .before .before .before .pre .1 .0) (omega arith) (c .begun .ensures)
 
--- src/walk.rt:150:12
 too-deep-requires : tie.Need-too-deep-requires Inv-loop μ-loop
 too-deep-requires c κs = let p = c .before .before .loop in (c .before .before .before .before .before .before .pre .0, at-cell _ _ _ (p .after) (p .w) (p .inv) (omega arith) _ (c .before .before .before .before .before .before .pre .0 .measured))
 
--- src/walk.rt:151:13
-returns-2 : tie.Need-returns-2 Inv-loop μ-loop
-returns-2 c = let p = c .before .before .before .before .loop in let q = full _ _ _ (sym (c .before .too-deep .ensures) ∙ c .if3 .taken) in refuses _ _ _ 17 (too-deep _ _ _ (p .after) (p .w) (p .inv) (omega arith) (q .1) (q .2) (q .0)) (λ z. omega arith)
+refused-requires-2 : tie.Need-refused-requires-2 Inv-loop μ-loop
+refused-requires-2 c κs = search needs
 
--- src/walk.rt:156:9
+returns-2 : tie.Need-returns-2 Inv-loop μ-loop
+returns-2 c = let p = c .before .before .before .before .before .loop in let q = full _ _ _ (sym (c .before .before .too-deep .ensures) ∙ c .before .if3 .taken) in refuses _ _ _ DEEP _ (too-deep _ _ _ (p .after) (p .w) (p .inv) (omega arith) (q .1) (q .2) (q .0)) (λ z. omega arith) (c .refused2 .ensures)
+
 step-requires : tie.Need-step-requires Inv-loop μ-loop
 step-requires c κs = let p = c .before .before .before .before .before .loop in (c .before .before .before .before .before .before .before .before .before .pre .0, ready _ _ _ (p .after) (p .w) (p .inv) (omega arith) _ (c .before .before .before .before .before .before .before .before .before .pre .0 .measured) (c .before .before .before .before .before .before .before .before .before .pre .1 .1) (room c))
 
--- src/walk.rt:158:13
-returns-3 : tie.Need-returns-3 Inv-loop μ-loop
-returns-3 c = let p = c .before .before .before .before .before .before .before .before .loop in refuses _ _ _ 18 (overflows _ _ _ (p .after) (p .w) (p .inv) (omega arith) _ _ _ (went (c .before .before)) (c .if4 .taken)) (λ q. omega arith)
+refused-requires-3 : tie.Need-refused-requires-3 Inv-loop μ-loop
+refused-requires-3 c κs = search needs
 
--- src/walk.rt:149:5
+returns-3 : tie.Need-returns-3 Inv-loop μ-loop
+returns-3 c = let p = c .before .before .before .before .before .before .before .before .before .loop in refuses _ _ _ OUTPUT _ (overflows _ _ _ (p .after) (p .w) (p .inv) (omega arith) _ _ _ (went (c .before .before .before)) (c .before .if4 .taken)) (λ q. omega arith) (c .refused3 .ensures)
+
 loop-less : tie.Need-loop-less Inv-loop μ-loop
 loop-less c = let q = went (c .before .before) in omega (arith, q .size, q .more)
 
--- src/walk.rt:149:5
 loop-again : tie.Need-loop-again Inv-loop μ-loop
 loop-again c = let p = c .before .before .before .before .before .before .before .before .loop in goes-on _ _ _ (p .after) (p .w) (p .inv) (omega arith) _ _ _ (went (c .before .before)) (c .if4 .left)
 
--- src/walk.rt:135:1
+done-requires : tie.Need-done-requires Inv-loop μ-loop
+done-requires c κs = search needs
+
 returns-4 : tie.Need-returns-4 Inv-loop μ-loop
-returns-4 c = let p = c .before .before .loop in sizes _ _ _ (p .after) (p .w) (p .inv) (omega arith)
+returns-4 c = let p = c .before .before .before .loop in sizes _ _ _ (p .after) (p .w) _ (p .inv) (omega arith) (c .done .ensures)
 
 pub measure-spec : {M : Type 1} → statement M
 measure-spec =
@@ -83,13 +82,17 @@ measure-spec =
     (tie.spec
     Inv-loop
     μ-loop
+    refused-requires
     returns
     begun-requires
     loop-holds
     too-deep-requires
+    refused-requires-2
     returns-2
     step-requires
+    refused-requires-3
     returns-3
     loop-less
     loop-again
+    done-requires
     returns-4)

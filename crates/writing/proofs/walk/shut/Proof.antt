@@ -1,39 +1,30 @@
+-- `writing::walk::shut` meets its contract.
 use lib.ListN.{getD}
 use Prim.Native.Nat.{ℕ, _+_, _-_}
 use mathlib.Core.Path.{ap}
-use Rattle.writing.specs.Steps.{walk}
 use borrow.Author.Needs.{needs}
+use Rattle.writing.specs.Steps.{walk}
 use Rattle.writing.proofs.walk.shut.Statement.{statement}
 use Rattle.writing.proofs.walk.shut.Tie as tie
-use Rattle.writing.proofs.walk.shut.Reads as reads
-use Rattle.writing.proofs.walk.shut.Lts as lts
-use Rattle.writing.proofs.walk.commas.Reads as commas-reads
 
--- src/walk.rt:60:17
 sub-depth : tie.Need-sub-depth
 sub-depth c = search needs
 
--- src/walk.rt:61:14
 mul-at : tie.Need-mul-at
 mul-at c = search needs
 
--- src/walk.rt:61:14
 element-copy-out-at : tie.Need-element-copy-out-at
 element-copy-out-at c = search needs
 
--- src/walk.rt:65:15
 add-t5 : tie.Need-add-t5
 add-t5 c = search needs
 
--- src/walk.rt:65:28
 commas-requires : tie.Need-commas-requires
 commas-requires c κs = search needs
 
--- src/walk.rt:65:15
 add-t9 : tie.Need-add-t9
 add-t9 c = search needs
 
--- src/walk.rt:56:1
 returns : tie.Need-returns
 returns c = let a = c .before .before .before .before .args in ap (λ (n : ℕ). walk (getD (a .after .now) (a .w .depth - 1) 0) (a .w .depth - 1) (a .w .size + 1 + n)) (c .commas .ensures .0)
 

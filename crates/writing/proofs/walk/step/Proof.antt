@@ -1,40 +1,28 @@
+-- `writing::walk::step` meets its contract.
 use mathlib.Core.Path.{refl, sym, _∙_}
-use Rattle.writing.specs.Steps.{shuts, passes, opens}
 use borrow.Author.Needs.{needs}
+use Rattle.writing.specs.Steps.{shuts, passes, opens}
 use Rattle.writing.proofs.walk.step.Statement.{statement}
 use Rattle.writing.proofs.walk.step.Tie as tie
-use Rattle.writing.proofs.walk.step.Reads as reads
-use Rattle.writing.proofs.walk.step.Lts as lts
-use Rattle.table.proofs.kind_of.Reads as kind-of-reads
-use Rattle.writing.proofs.walk.open.Reads as open-reads
-use Rattle.writing.proofs.walk.pass.Reads as pass-reads
-use Rattle.writing.proofs.walk.shut.Reads as shut-reads
 
--- src/walk.rt:126:9
 shut-requires : tie.Need-shut-requires
 shut-requires c κs = search needs
 
--- src/walk.rt:126:9
 returns : tie.Need-returns
 returns c = (_, shuts (c .before .before .if1 .taken) (c .shut .ensures) refl)
 
--- src/walk.rt:128:8
 kind-of-requires : tie.Need-kind-of-requires
 kind-of-requires c κs = (c .before .before .pre .0, c .before .before .pre .1 .cell (c .if1 .left))
 
--- src/walk.rt:129:9
 pass-requires : tie.Need-pass-requires
 pass-requires c κs = (c .before .before .before .before .pre .0, (c .before .before .before .before .pre .1 .cell (c .before .before .if1 .left), c .before .before .before .before .pre .1 .short))
 
--- src/walk.rt:129:9
 returns-2 : tie.Need-returns-2
 returns-2 c = (_, passes (c .before .before .before .if1 .left) (sym (c .before .before .kind-of .ensures) ∙ c .before .if2 .taken) (c .pass .ensures) refl)
 
--- src/walk.rt:131:5
 open-requires : tie.Need-open-requires
 open-requires c κs = let r = c .before .before .before .before .before .pre .1 in let n = c .before .before .before .if1 .left in (c .before .before .before .before .before .pre .0, (r .cell n, (r .room n (λ q. c .before .if2 .left (c .before .before .kind-of .ensures ∙ q)), r .short)))
 
--- src/walk.rt:119:1
 returns-3 : tie.Need-returns-3
 returns-3 c = (_, opens (c .before .before .before .before .if1 .left) (λ q. c .before .before .if2 .left (c .before .before .before .kind-of .ensures ∙ q)) (c .«open» .ensures .0) (c .«open» .ensures .1))
 
