@@ -12,7 +12,7 @@ use Rattle.lists.specs.Lst.{Lst, len, order, extent, onto, reversed}
 use Rattle.pool.specs.Erase.{run, visit, step, total, dropped}
 use Rattle.pool.specs.Operations.{read, laid, fresh, pfl, erase, span, load, listFrom, listOf}
 use Rattle.pool.specs.Pool.{Cell, nextOf, frees}
-use Rattle.pool.specs.Script.{refusal, PFL, ERASE, effect, Run, performed}
+use Rattle.pool.specs.Script.{FIRST, refusal, PFL, ERASE, effect, Run, performed}
 use Rattle.pool.specs.Tally.{same, tally}
 use Rattle.table.specs.Limits.{holdersMost}
 use Rattle.text.specs.Limits.{recordBytes}
@@ -73,7 +73,7 @@ cases =
     of-text "()" ∷
     of-text "(())" ∷
     of-text "((3),1,(1,2))" ∷
-    of-text "(012)" ∷
+    record { text = "(012)"; cells = 6; script = FIRST ∷ 0 ∷ 0 ∷ 0 ∷ [] } ∷
     of-text "(37777777777)" ∷
     of-text "(40000000000)" ∷
     of-text "(000000000000)" ∷
@@ -94,7 +94,7 @@ stated =
     stays (0 ∷ 1 ∷ 0 ∷ 2 ∷ []) "()" "()" (1 ∷ 2 ∷ 3 ∷ 4 ∷ 5 ∷ 6 ∷ []) ∷
     stays (1 ∷ 2 ∷ 1 ∷ 4 ∷ []) "(())" "(())" (2 ∷ 3 ∷ 4 ∷ 5 ∷ 6 ∷ []) ∷
     stays (3 ∷ 2 ∷ 6 ∷ 13 ∷ []) "((3),1,(1,2))" "((1,2),1,(3))" [] ∷
-    stays (1 ∷ 1 ∷ 1 ∷ 4 ∷ []) "(12)" "(12)" (2 ∷ 3 ∷ 4 ∷ 5 ∷ 6 ∷ []) ∷
+    record { answer = DONE; figures = 1 ∷ 1 ∷ 1 ∷ 4 ∷ []; text = chars "(12)"; backwards = chars "(12)"; results = 0 ∷ 10 ∷ []; after = chars "(12)"; free = 2 ∷ 3 ∷ 4 ∷ 5 ∷ 6 ∷ [] } ∷
     stays (1 ∷ 1 ∷ 1 ∷ 13 ∷ []) "(37777777777)" "(37777777777)" (2 ∷ 3 ∷ 4 ∷ 5 ∷ 6 ∷ []) ∷
     refusedRow 16 ∷
     refusedRow 16 ∷

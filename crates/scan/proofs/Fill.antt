@@ -30,7 +30,7 @@ module _ (s : List ℕ) (o : Outlook) (e i : ℕ) (q : o ≡ outlook (e + 1) (ov
   pub blank-not : i < length s → (i % recordBytes ≡ 0 → ⊥) → (getD s i 0 ≡ 32 → ⊥) → refusedScan 15 ≡ told o
   blank-not h n b =
       let here = q ∙ ap (λ (u : State). outlook (e + 1) u (drop i s)) (inside-record i n) in
-      let a = ap (λ (w : Outlook). w .answered) here ∙ stops s (e + 1) (place afterAll 0 0 0) i 15 h (no-blank (getD s i 0) b (class (getD s i 0))) in
+      let a = ap (λ (w : Outlook). w .answered) here ∙ stops s (place afterAll 0 0 0) i 15 h (no-blank (getD s i 0) b (class (getD s i 0))) in
       ap (λ (w : text.Answer). saying w (o .begins - 1)) (sym a)
 
   pub blank-on : i < length s → (i % recordBytes ≡ 0 → ⊥) → getD s i 0 ≡ 32 → o ≡ outlook (e + 1) (overAt (i + 1)) (drop (i + 1) s)

@@ -1,16 +1,16 @@
 -- The outlook of a scan goes on character by character.
 use Prim.Native.Nat.{ℕ, _+_, _-_, _<_}
 use mathlib.Core.Path.{_≡_, sym, ap, _∙_}
-use mathlib.Core.List.{List, _∷_, []}
+use mathlib.Core.List.{List, _∷_, [], _++_, append-assoc}
 use mathlib.Core.Bool.{true}
 use native.Mathlib.Omega.{arith}
 use lib.ListN.{length, drop, getD}
 use Rattle.text.specs.Text.{Scan, Step, fault, State, at, refused, stepOf, settle, run, answer, refusal, digitAt}
-use Rattle.text.specs.Marks.{met, trace, begun}
+use Rattle.text.specs.Marks.{Mark, met, trace, begun}
 use Rattle.text.specs.ListText.{isDigit}
 use Rattle.text.specs.TextLaws.{rests-refused, digit-step}
 use Rattle.text.specs.MarkLaws.{begun-append, digit-met}
-use Rattle.scan.specs.Places.{Outlook, outlook}
+use Rattle.scan.specs.Places.{outlook, Prospect, prospect, behind}
 use Rattle.scan.proofs.RunLaws.{next, digit-bounds}
 
 pub goes : (k : ℕ) (s : Scan) (i b : ℕ) (l : List ℕ)
@@ -27,16 +27,24 @@ pub turn : (text : List ℕ) (k : ℕ) (s : Scan) (i : ℕ) → i < length text
     ≡ outlook (k + begun (met (at s i) (getD text i 0))) (settle (i + 1) (stepOf s (getD text i 0))) (drop (i + 1) text)
 turn text k s i h = ap (outlook k (at s i)) (next text i h) ∙ goes k s i (getD text i 0) (drop (i + 1) text)
 
--- a fault is the answer
-pub faulted : (k n : ℕ) (l : List ℕ) → (outlook k (refused n) l) .answered ≡ refusal n
-faulted k n l = ap answer (rests-refused n l)
+-- the marks themselves
+pub turned : (text : List ℕ) (s : Scan) (i : ℕ) → i < length text
+    → prospect (at s i) (drop i text) ≡ behind (met (at s i) (getD text i 0)) (prospect (settle (i + 1) (stepOf s (getD text i 0))) (drop (i + 1) text))
+turned text s i h = ap (prospect (at s i)) (next text i h)
 
-pub stops : (text : List ℕ) (k : ℕ) (s : Scan) (i n : ℕ) → i < length text → stepOf s (getD text i 0) ≡ fault n
-    → (outlook k (at s i) (drop i text)) .answered ≡ refusal n
-stops text k s i n h e =
-    let j = k + begun (met (at s i) (getD text i 0)) in
-    ap (λ (o : Outlook). o .answered) (turn text k s i h ∙ ap (λ (u : Step). outlook j (settle (i + 1) u) (drop (i + 1) text)) e)
-    ∙ faulted j n (drop (i + 1) text)
+pub behind-behind : (a b : List Mark) (o : Prospect) → behind a (behind b o) ≡ behind (a ++ b) o
+behind-behind a b o = ap (λ (ms : List Mark). record { answered = o .answered; marks = ms }) (sym (append-assoc a b (o .marks)))
+
+-- a fault is the answer
+pub faulted : (n : ℕ) (l : List ℕ) → (prospect (refused n) l) .answered ≡ refusal n
+faulted n l = ap answer (rests-refused n l)
+
+pub stops : (text : List ℕ) (s : Scan) (i n : ℕ) → i < length text → stepOf s (getD text i 0) ≡ fault n
+    → (prospect (at s i) (drop i text)) .answered ≡ refusal n
+stops text s i n h e =
+    ap (λ (o : Prospect). o .answered) (turned text s i h)
+    ∙ ap (λ (u : Step). answer (run (settle (i + 1) u) (drop (i + 1) text))) e
+    ∙ faulted n (drop (i + 1) text)
 
 -- a digit
 pub digit-goes : (s : Scan) (b : ℕ) → isDigit b ≡ true → stepOf s b ≡ digitAt s (b - 48)

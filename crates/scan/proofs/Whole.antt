@@ -1,7 +1,7 @@
 -- A scan from place to place: the outlook stays that of the whole text, so what is said at its end is said of the text.
 use Prim.Native.Nat.{ℕ, _+_, _-_, _<_, _≤_}
 use mathlib.Core.Path.{_≡_, refl, sym, ap, _∙_}
-use mathlib.Core.List.{List}
+use mathlib.Core.List.{List, _++_}
 use mathlib.Core.Bool.{cond}
 use native.Mathlib.Omega.{arith}
 use lib.ListN.{length, drop, getD, drop-of-length-le}
@@ -11,15 +11,18 @@ use denote.Enum.Declared.{tagOf}
 use Rattle.lists.specs.Lst.{extent}
 use Rattle.text.specs.Limits.{levels}
 use Rattle.text.specs.Text as text
-use Rattle.text.specs.Text.{place, begin, fault, State, at, run, settle, stepOf, answer, scanned, refusal, done}
+use Rattle.text.specs.Text.{place, begin, State, at, run, settle, stepOf, answer, scanned, refusal, done}
 use Rattle.text.specs.Marks.{met, begun, trace, listIn}
-use Rattle.text.specs.TextLaws.{decide, digit-step, Class, is-open, is-shut, is-comma, is-blank, is-digit, is-other, class}
+use Rattle.text.specs.TextLaws.{decide, class}
+use Rattle.text.specs.MarkLaws.{begun-append}
 use Rattle.text.specs.Accepted.{begun-text, never-nought}
-use Rattle.scan.specs.Places.{opened, faultOf, overAt, stateOf, phaseOf, Outlook, outlook, outlookAt, Inside, Onward}
+use Rattle.scan.specs.Places.{opened, faultOf, overAt, stateOf, phaseOf, Outlook, outlook, outlookAt, Prospect, prospectAt, emitted, Inside, Taken}
+use Rattle.scan.specs.Starts.{no-start}
 use Rattle.scan.specs.Outcomes.{Sized, saying, told, refusedScan, scannedAs}
 use Rattle.scan.specs.declared.step.Place.{Place}
 use Rattle.scan.specs.declared.step.Step.{Step}
-use Rattle.scan.specs.declared.step.Step.the-variants.{Mark, Fault}
+use Rattle.scan.specs.declared.step.Step.the-variants as step
+use Rattle.scan.specs.declared.step.Step.the-variants.{Fault}
 use Rattle.scan.proofs.step.Step.{the-type}
 use Rattle.scan.proofs.Outlooks.{turn, stops}
 use Rattle.scan.proofs.Tokens.{standing}
@@ -49,16 +52,8 @@ refused-says s k e =
     ap (λ (x : ℕ). record { answer = k; taken = 0; extent = x }) (sym none) ∙ ap (λ (a : text.Answer). saying a (extent (listIn s))) (sym e)
 
 -- the first character
-no-start : (b : ℕ) → (b ≡ 40 → ⊥) → Class b → stepOf begin b ≡ fault 15
-no-start b n (is-open e) = absurd (n e)
-no-start b n (is-shut e) = ap (stepOf begin) e
-no-start b n (is-comma e) = ap (stepOf begin) e
-no-start b n (is-blank e) = ap (stepOf begin) e
-no-start b n (is-digit x h e) = ap (stepOf begin) e ∙ digit-step begin x h
-no-start b n (is-other f) = f begin
-
 pub starts-not : (s : List ℕ) → 0 < length s → (getD s 0 0 ≡ 40 → ⊥) → refusedScan 15 ≡ scannedAs s
-starts-not s h n = refused-says s 15 (stops s 0 begin 0 15 h (no-start (getD s 0 0) n (class (getD s 0 0))))
+starts-not s h n = refused-says s 15 (stops s begin 0 15 h (no-start (getD s 0 0) n (class (getD s 0 0))))
 
 -- the loop over the places: the outlook stays that of the whole text
 pub record Stands (s : List ℕ) (p : Place) : Type 0 where
@@ -81,16 +76,25 @@ starts s h e =
 pub inside : (s : List ℕ) (p : Place) → Sized s → Stands s p → p .at < length s → Inside s p
 inside s p z a h = record { some = h; small = z .small; deep = a .deep; levelled = a .levelled; counted = a .counted }
 
-pub goes-on : (s : List ℕ) (p q : Place) → Stands s p → Onward s (p .at) (outlookAt s p) q → (q .depth ≡ 0 → ⊥) → Stands s q
+-- a step keeps the count too
+counts : (s : List ℕ) (p q : Place) → Taken s p (step.Mark q) → outlookAt s p ≡ outlookAt s q
+counts s p q w =
+    let ms = emitted s p q in
+    let l = (prospectAt s q) .marks in
+    let n : p .elements + 1 + begun (ms ++ l) ≡ q .elements + 1 + begun l = omega (arith, begun-append ms l, w .tallied) in
+    ap (λ (o : Prospect). record { answered = o .answered; begins = p .elements + 1 + begun (o .marks) }) (w .same)
+    ∙ ap (λ (k : ℕ). record { answered = (prospectAt s q) .answered; begins = k }) n
+
+pub goes-on : (s : List ℕ) (p q : Place) → Stands s p → Taken s p (step.Mark q) → (q .depth ≡ 0 → ⊥) → Stands s q
 goes-on s p q a w n =
-    record { same = a .same ∙ w .same; within = w .within; deep = omega arith; levelled = w .levelled; counted = w .counted }
+    record { same = a .same ∙ counts s p q w; within = w .within; deep = omega arith; levelled = w .levelled; counted = w .counted }
 
 pub faults : (s : List ℕ) (p : Place) (k : ℕ) → Stands s p → (outlookAt s p) .answered ≡ refusal k → refusedScan k ≡ scannedAs s
 faults s p k a e = refused-says s k (ap (λ (o : Outlook). o .answered) (a .same) ∙ e)
 
 -- what the else of a `let Step::Mark(..)` knows: the step's tag is the fault's
 pub fault-known : (t : Step) → tagOf the-type t ≡ 1 → t ≡ Fault (faultOf t)
-fault-known (Mark q) e = let z : _≡_ {A = ℕ} 0 1 = e in absurd (omega arith)
+fault-known (step.Mark q) e = let z : _≡_ {A = ℕ} 0 1 = e in absurd (omega arith)
 fault-known (Fault k) e = refl
 
 pub runs-out : (s : List ℕ) (p : Place) → Stands s p → length s ≤ p .at → refusedScan 15 ≡ scannedAs s
@@ -99,8 +103,8 @@ runs-out s p a h =
     faults s p 15 a
     (ap (λ (u : State). answer (run u (drop (p .at) s))) (standing p (a .deep)) ∙ ap (λ (l : List ℕ). answer (run st l)) (drop-of-length-le s h))
 
-pub ends : (s : List ℕ) (p q : Place) → Stands s p → Onward s (p .at) (outlookAt s p) q → q .depth ≡ 0
+pub ends : (s : List ℕ) (p q : Place) → Stands s p → Taken s p (step.Mark q) → q .depth ≡ 0
     → told (outlook (q .elements + 1) (overAt (q .at)) (drop (q .at) s)) ≡ scannedAs s
 ends s p q a w z =
     let over : stateOf q ≡ overAt (q .at) = simp (eq-eqb (q .depth) 0 z) in
-    ap told (sym (a .same ∙ w .same ∙ ap (λ (u : State). outlook (q .elements + 1) u (drop (q .at) s)) over)) ∙ whole-says s
+    ap told (sym (a .same ∙ counts s p q w ∙ ap (λ (u : State). outlook (q .elements + 1) u (drop (q .at) s)) over)) ∙ whole-says s

@@ -1,17 +1,20 @@
 -- Places in a text, of the code and of the automaton: what a place says of the rest of the text, and what a step from it must say.
-use Prim.Native.Nat.{ℕ, _+_, _<_, _≤_}
+use Prim.Native.Nat.{ℕ, zero, suc, _+_, _-_, _<_, _≤_}
 use mathlib.Core.Path.{_≡_}
-use mathlib.Core.List.{List}
+use mathlib.Core.List.{List, [], _∷_, _++_}
 use mathlib.Core.Bool.{Bool, true, false, cond}
 use lib.ListN.{length, drop}
 use lib.Dec.{eqb, leb, ltb}
 use Rattle.text.specs.Limits.{levels, digitsMost, textMost}
 use Rattle.text.specs.Text as text
 use Rattle.text.specs.Text.{State, place, mark, settle, run, answer, refusal}
-use Rattle.text.specs.Marks.{trace, begun}
+use Rattle.text.specs.Marks as marks
+use Rattle.text.specs.Marks.{Mark, shut, value, trace, begun}
+use Rattle.scan.specs.Runs.{numeral}
 use Rattle.scan.specs.declared.step.Place.{Place}
 use Rattle.scan.specs.declared.step.Step.{Step}
-use Rattle.scan.specs.declared.step.Step.the-variants.{Mark, Fault}
+use Rattle.scan.specs.declared.step.Step.the-variants as step
+use Rattle.scan.specs.declared.step.Step.the-variants.{Fault}
 
 abbrev pub placed : ℕ → ℕ → ℕ → Bool → Place
 placed i d e f = record { at = i; depth = d; elements = e; first = f }
@@ -22,12 +25,12 @@ opened = placed 1 1 0 true
 
 -- the number of a fault
 abbrev pub faultOf : Step → ℕ
-faultOf (Mark p) = 0
+faultOf (step.Mark p) = 0
 faultOf (Fault k) = k
 
 -- "("
 abbrev pub openOf : ℕ → ℕ → ℕ → Step
-openOf d e i = cond (leb levels d) (Fault 17) (Mark (placed (i + 1) (d + 1) (e + 1) true))
+openOf d e i = cond (leb levels d) (Fault 17) (step.Mark (placed (i + 1) (d + 1) (e + 1) true))
 
 -- n digits of which b is the first are no atom
 abbrev pub tooLong : ℕ → ℕ → Bool
@@ -61,6 +64,32 @@ outlook k st l = record { answered = answer (run st l); begins = k + begun (trac
 abbrev pub outlookAt : List ℕ → Place → Outlook
 outlookAt s p = outlook (p .elements + 1) (stateOf p) (drop (p .at) s)
 
+-- the same with the marks themselves
+pub record Prospect : Type 0 where
+  pub answered : text.Answer
+  pub marks : List Mark
+
+abbrev pub prospect : State → List ℕ → Prospect
+prospect st l = record { answered = answer (run st l); marks = trace st l }
+
+abbrev pub prospectAt : List ℕ → Place → Prospect
+prospectAt s p = prospect (stateOf p) (drop (p .at) s)
+
+-- with marks that come before
+abbrev pub behind : List Mark → Prospect → Prospect
+behind ms o = record { answered = o .answered; marks = ms ++ o .marks }
+
+-- n lists end
+abbrev pub shuts : ℕ → List Mark
+shuts zero = []
+shuts (suc n) = shut ∷ shuts n
+
+-- the marks between two places: a list begins, or an atom or nothing stands before the ends of lists
+abbrev pub emitted : List ℕ → Place → Place → List Mark
+emitted s p q =
+    cond (ltb (p .depth) (q .depth)) (marks.opened ∷ [])
+    (cond (ltb (p .elements) (q .elements)) (value (numeral 0 (drop (p .at) s)) ∷ []) [] ++ shuts (p .depth - q .depth))
+
 -- a place inside a list, with a character to look at
 pub record Inside (s : List ℕ) (p : Place) : Type 0 where
   pub some : p .at < length s
@@ -77,18 +106,25 @@ pub record Closing (s : List ℕ) (d e i : ℕ) : Type 0 where
   pub levelled : d ≤ levels
   pub counted : e ≤ i
 
--- a step from the place i, whose outlook is o: a mark has the same outlook, a fault is the answer
-pub record Onward (s : List ℕ) (i : ℕ) (o : Outlook) (q : Place) : Type 0 where
+-- a step from the place i, of e elements, whose prospect is o: behind the marks ms is the prospect of q
+pub record Onward (s : List ℕ) (i e top : ℕ) (o : Prospect) (ms : List Mark) (q : Place) : Type 0 where
   pub on : i < q .at
   pub within : q .at ≤ length s
   pub levelled : q .depth ≤ levels
   pub counted : q .elements ≤ q .at
-  pub same : o ≡ outlookAt s q
+  pub tallied : q .elements ≡ e + begun ms
+  pub high : q .depth ≤ top
+  pub same : o ≡ behind ms (prospect (stateOf q) (drop (q .at) s))
 
-abbrev pub Told : List ℕ → ℕ → Outlook → Step → Type 0
-Told s i o (Mark q) = Onward s i o q
-Told s i o (Fault k) = o .answered ≡ refusal k
+-- a mark goes on behind the marks that m says, a fault is the answer
+abbrev pub Told : List ℕ → ℕ → ℕ → ℕ → Prospect → (Place → List Mark) → Step → Type 0
+Told s i e top o m (step.Mark q) = Onward s i e top o (m q) q
+Told s i e top o m (Fault k) = o .answered ≡ refusal k
 
 -- a step from p
 abbrev pub Taken : List ℕ → Place → Step → Type 0
-Taken s p u = Told s (p .at) (outlookAt s p) u
+Taken s p u = Told s (p .at) (p .elements) (p .depth + 1) (prospectAt s p) (emitted s p) u
+
+-- what follows a ")" that leaves d levels open
+abbrev pub Closed : List ℕ → ℕ → ℕ → ℕ → Step → Type 0
+Closed s d e i u = Told s (i - 1) e d (prospect (closedAt d i) (drop i s)) (λ q. shuts (d - q .depth)) u

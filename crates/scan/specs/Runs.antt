@@ -1,5 +1,5 @@
 -- Runs of octal digits, and eight bytes as one number.
-use Prim.Native.Nat.{ℕ, suc, _+_, _*_, _<_}
+use Prim.Native.Nat.{ℕ, suc, _+_, _-_, _*_, _<_}
 use mathlib.Core.List.{List, [], _∷_}
 use mathlib.Core.Bool.{cond}
 use lib.ListN.{getD}
@@ -9,6 +9,11 @@ use Rattle.text.specs.ListText.{isDigit}
 abbrev pub digitRun : List ℕ → ℕ
 digitRun [] = 0
 digitRun (b ∷ bs) = cond (isDigit b) (suc (digitRun bs)) 0
+
+-- the value of those digits, behind digits of the value v
+abbrev pub numeral : ℕ → List ℕ → ℕ
+numeral v [] = v
+numeral v (b ∷ bs) = cond (isDigit b) (numeral (v * 8 + (b - 48)) bs) v
 
 abbrev pub bytesAt : List ℕ → ℕ → List ℕ
 bytesAt s i =

@@ -2,11 +2,11 @@
 // A step takes along what follows its element: ",", or every ")" up to the "," behind them or up to the end of the list.
 ghost use mathlib.Core.Path.{_≡_};
 ghost use mathlib.Core.Bool.{true};
-ghost use Prim.Native.Nat.{_+_, _-_, _≤_, _<_};
-ghost use lib.ListN.{getD, drop};
+ghost use Prim.Native.Nat.{_≤_, _<_};
+ghost use lib.ListN.{getD};
 ghost use Rattle.text.specs.Limits.{textMost};
 ghost use Rattle.text.specs.ListText.{isDigit};
-ghost use Rattle.scan.specs.Places.{openOf, tooLong, faultOf, closedAt, outlook, Inside, Closing, Told, Taken, opened};
+ghost use Rattle.scan.specs.Places.{openOf, tooLong, faultOf, Inside, Closing, Closed, Taken, opened};
 use crate::limits::Digits;
 use crate::limits::Level;
 use crate::octals;
@@ -50,7 +50,7 @@ pub fn fault_no(s: Step) -> u32
 // What follows a ")".
 fn closed(text: &[u8], depth: u32, elements: u32, at: usize) -> Step
     requires { ⌜ Closing (now text) depth elements at ⌝ }
-    ensures { λ r. ⌜ Told (now (text .entry)) (at - 1) (outlook (elements + 1) (closedAt depth at) (drop at (now (text .entry)))) r ⌝ }
+    ensures { λ r. ⌜ Closed (now (text .entry)) depth elements at r ⌝ }
 {
     let mut d = depth;
     let mut i = at;

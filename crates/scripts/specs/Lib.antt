@@ -1,4 +1,4 @@
-pub mod Runs
+pub mod Performs
 pub mod Midway
 pub mod MidwayLaws
 pub mod RunLaws

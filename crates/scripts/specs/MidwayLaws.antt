@@ -19,7 +19,7 @@ use Rattle.pool.specs.Pool.{Pool, Sound}
 use Rattle.pool.specs.Script.{Operation, Effect, Run, refusal, effect, after, stops, goesOn, performed}
 use Rattle.pool.specs.ScriptLaws.{after-sound}
 use Rattle.scripts.specs.Midway.{operationAt, written, left, resumed, Midway}
-use Rattle.scripts.specs.Runs.{Performs}
+use Rattle.scripts.specs.Performs.{Performs}
 use Rattle.table.specs.View.{view, Table}
 use Rattle.table.specs.declared.Shape.{Shape}
 

@@ -12,7 +12,8 @@ use Rattle.calls.specs.Entry.{shapeOf, shown, used}
 use Rattle.calls.specs.Run.{operationsMost, operations, notRun, ranTo, ran, Ran}
 use Rattle.pool.specs.Check.{check}
 use Rattle.pool.specs.Script.{performed}
-use Rattle.scripts.specs.Runs.{Runs, Performs}
+use Rattle.calls.specs.Contracts.{Runs}
+use Rattle.scripts.specs.Performs.{Performs}
 use Rattle.table.specs.Sizes.{cellsOf}
 use Rattle.table.specs.WordsLaws.{shown-words}
 

@@ -1,12 +1,12 @@
 // The C boundary: every call to be had from C, each one line over the crate that does it. The header is include/tabeshilo.h.
 ghost use mathlib.Core.Path.{_≡_};
 ghost use Rattle.answers.specs.Answers.{outcome};
+ghost use Rattle.calls.specs.Contracts.{Runs, Reads, wrote};
 ghost use Rattle.calls.specs.Run.{ran};
+ghost use Rattle.calls.specs.Read.{readIn};
 ghost use Rattle.calls.specs.Write.{writeOut};
-ghost use Rattle.scripts.specs.Runs.{Runs};
 ghost use Rattle.setup.specs.SetUp.{SetUp, setUp};
 ghost use Rattle.text.specs.Text.{verdict};
-ghost use Rattle.writing.specs.Wrote.{wrote};
 use answers::Outcome;
 
 #[no_mangle]
@@ -27,6 +27,14 @@ pub extern "C" fn tab_run(
     ensures { λ r. ⌜ Runs r (now (table .exit)) (now (work .exit)) (now (results .exit)) (ran (now (table .entry)) (now (work .entry)) (now (script .entry)) (now (results .entry))) ⌝ }
 {
     scripts::run(table, work, script, results)
+}
+
+// count: bytes taken
+#[no_mangle]
+pub extern "C" fn tab_read(table: &mut [u32], work: &mut [u32], holder: u32, text: &[u8]) -> Outcome
+    ensures { λ r. ⌜ Reads (readIn (now (table .entry)) (now (work .entry)) holder (now (text .entry))) r (now (table .exit)) (now (work .exit)) ⌝ }
+{
+    reading::read(table, work, holder, text)
 }
 
 // count: bytes written

@@ -138,6 +138,14 @@ pub fn set_count(s: Shape, t: &mut [u32], c: usize, v: usize)
     put_word(s, t, c, 2, v as u32);
 }
 
+pub fn set_elem(s: Shape, t: &mut [u32], c: usize, v: u32)
+    requires { ⌜ Table s (now t) ⌝ }
+    requires { ⌜ IsCell s c ⌝ }
+    ensures { λ r. ⌜ Shows s (now (t .exit)) (putField 1 c v (view s (now (t .entry)))) ⌝ }
+{
+    put_word(s, t, c, 1, v);
+}
+
 pub fn set_next(s: Shape, t: &mut [u32], c: usize, v: usize)
     requires { ⌜ Table s (now t) ⌝ }
     requires { ⌜ IsCell s c ⌝ }

@@ -11,5 +11,5 @@ pub mod WalkingLaws
 pub mod MeasureLaws
 pub mod Putting
 pub mod PuttingLaws
-pub mod Wrote
+pub mod RecordEnd
 pub mod WroteLaws

@@ -28,7 +28,8 @@ use Rattle.text.specs.Writing.{usable, judged}
 use Rattle.text.specs.WritingLaws.{writable, writes}
 use Rattle.writing.specs.declared.walk.Measured.{Measured}
 use Rattle.writing.specs.Measures.{listAt, Stands, Measures, Fitting}
-use Rattle.writing.specs.Wrote.{wrote, recordEnd}
+use Rattle.calls.specs.Contracts.{wrote}
+use Rattle.writing.specs.RecordEnd.{recordEnd}
 
 -- a holder of a sound pool
 pub stands : (p : Pool) (h x : ℕ) → Sound p → x ≡ holder p h → Stands (p .cells) x

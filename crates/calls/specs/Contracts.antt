@@ -1,0 +1,26 @@
+-- What the code of a call has to show: its answer, the number beside it and every lent word afterwards are those of the definition.
+use mathlib.Core.Path.{_≡_}
+use mathlib.Core.List.{List}
+use Prim.Native.Nat.{ℕ}
+use Rattle.answers.specs.Answers.{outcome}
+use Rattle.answers.specs.declared.Outcome.{Outcome}
+use Rattle.calls.specs.Run.{Ran}
+use Rattle.calls.specs.Read.{Read}
+use Rattle.calls.specs.Write.{Write}
+
+-- a script run: table, work space and results
+pub record Runs (r : Outcome) (ts ws rs : List ℕ) (q : Ran) : Type 0 where
+  pub outcome : r ≡ outcome (q .answer) (q .count)
+  pub table : ts ≡ q .table
+  pub work : ws ≡ q .work
+  pub results : rs ≡ q .results
+
+-- reading: table and work space; the text is only read
+pub record Reads (q : Read) (r : Outcome) (ts ws : List ℕ) : Type 0 where
+  pub answer : r ≡ outcome (q .answer) (q .count)
+  pub table : ts ≡ q .table
+  pub work : ws ≡ q .work
+
+-- writing: work space and output; the table is only read
+abbrev pub wrote : Outcome → List ℕ → List ℕ → Write
+wrote r ws out = record { answer = r .answer; count = r .count; work = ws; output = out }

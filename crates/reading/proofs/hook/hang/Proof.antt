@@ -1,0 +1,55 @@
+-- `reading::hook::hang` meets its contract.
+use mathlib.Core.Path.{ap, sym}
+use borrow.Author.Needs.{needs}
+use Rattle.table.specs.View.{view}
+use Rattle.table.specs.ViewLaws.{said}
+use Rattle.reading.specs.Build.{Link}
+use Rattle.reading.specs.Reading.{hang}
+use Rattle.reading.specs.HookLaws.{is-held, is-after, is-inside}
+use Rattle.reading.proofs.hook.hang.Statement.{statement}
+use Rattle.reading.proofs.hook.hang.Tie as tie
+
+set-holder-requires : tie.Need-set-holder-requires
+set-holder-requires c κs = search needs
+
+set-next-requires : tie.Need-set-next-requires
+set-next-requires c κs = search needs
+
+cast-set-elem : tie.Need-cast-set-elem
+cast-set-elem c = search needs
+
+set-elem-requires : tie.Need-set-elem-requires
+set-elem-requires c κs = search needs
+
+same-length : tie.Need-same-length
+same-length c = search needs
+
+returns : tie.Need-returns
+returns c = said (c .before .before .set-holder .ensures) (ap (λ (l : Link). hang l (c .before .before .before .before .before .before .before .args .h) (c .before .before .before .before .before .before .before .args .c) (view (c .before .before .before .before .before .before .before .args .s) (c .before .before .before .before .before .before .before .args .t .now))) (sym (is-held (c .before .before .before .before .before .before .before .args .k) (c .before .before .before .before .if1 .taken))))
+
+same-length-2 : tie.Need-same-length-2
+same-length-2 c = search needs
+
+returns-2 : tie.Need-returns-2
+returns-2 c = said (c .before .before .set-next .ensures) (ap (λ (l : Link). hang l (c .before .before .before .before .before .before .before .before .before .args .h) (c .before .before .before .before .before .before .before .before .before .args .c) (view (c .before .before .before .before .before .before .before .before .before .args .s) (c .before .before .before .before .before .before .before .before .before .args .t .now))) (sym (is-after (c .before .before .before .before .before .before .before .before .before .args .k) (c .before .before .before .before .before .before .if1 .left) (c .before .before .before .before .if2 .taken))))
+
+same-length-3 : tie.Need-same-length-3
+same-length-3 c = search needs
+
+returns-3 : tie.Need-returns-3
+returns-3 c = said (c .before .before .set-elem .ensures) (ap (λ (l : Link). hang l (c .before .before .before .before .before .before .before .before .before .args .h) (c .before .before .before .before .before .before .before .before .before .args .c) (view (c .before .before .before .before .before .before .before .before .before .args .s) (c .before .before .before .before .before .before .before .before .before .args .t .now))) (sym (is-inside (c .before .before .before .before .before .before .before .before .before .args .k) (c .before .before .before .before .before .before .if1 .left) (c .before .before .before .before .if2 .left))))
+
+pub hang-spec : {M : Type 1} → statement M
+hang-spec =
+    tie.close
+    (tie.spec
+    set-holder-requires
+    set-next-requires
+    cast-set-elem
+    set-elem-requires
+    same-length
+    returns
+    same-length-2
+    returns-2
+    same-length-3
+    returns-3)

@@ -1,0 +1,13 @@
+-- `reading::wrong_size` meets its contract.
+use borrow.Author.Tests.{eq-eqb, ne-eqb}
+use Rattle.reading.proofs.wrong_size.Statement.{statement}
+use Rattle.reading.proofs.wrong_size.Tie as tie
+
+returns : tie.Need-returns
+returns c = simp (ne-eqb _ _ (c .if1 .taken))
+
+returns-2 : tie.Need-returns-2
+returns-2 c = simp (eq-eqb _ _ (c .if1 .left))
+
+pub wrong-size-spec : {M : Type 1} → statement M
+wrong-size-spec = tie.close (tie.spec returns returns-2)

@@ -1,0 +1,22 @@
+-- The second pass over a text, at a place of it: what is left of the text is what is left to read into the holder.
+use mathlib.Core.Path.{_≡_}
+use mathlib.Core.List.{List}
+use Prim.Native.Nat.{ℕ}
+use lib.ListN.{length}
+use Rattle.pool.specs.Operations.{read}
+use Rattle.scan.specs.Places.{prospectAt}
+use Rattle.scan.specs.declared.step.Place.{Place}
+use Rattle.table.specs.declared.Shape.{Shape}
+use Rattle.table.specs.View.{view, Table}
+use Rattle.text.specs.Limits.{levels}
+use Rattle.text.specs.Marks.{listIn}
+use Rattle.reading.specs.Accepting.{Accepting}
+use Rattle.reading.specs.Underway.{After}
+use Rattle.reading.specs.declared.hook.Hook.{Hook}
+
+-- from the table ts to the table us
+pub record Pass (s : Shape) (ts : List ℕ) (h : ℕ) (text us : List ℕ) (k : Hook) (xs : List ℕ) (p : Place) : Type 0 where
+  pub table : Table s us
+  pub long : length xs ≡ levels
+  pub place : Accepting text p
+  pub after : After (view s us) h k xs (p .depth) (read (view s ts) h (listIn text)) ((prospectAt text p) .marks)
