@@ -1,0 +1,245 @@
+/*
+ * tabeshilo.h: the C side of Tabeshilo, a list engine after Collins' SAC-1 report.
+ *
+ * Link with libtabeshilo.a (`rt staticlib tabeshilo` writes it to target/staticlib; it is for x86-64 Linux).
+ * The archive asks for nothing but memcpy, memmove and memset.
+ *
+ *
+ * LENT MEMORY
+ *
+ * The engine has no memory of its own: no static data, no heap, no file. All it works on is lent by the caller for
+ * the length of one call, and nothing is kept after the call returns. So a table may be moved, copied or stored
+ * between calls as plain words, and calls on different tables may run at the same time in different threads. Calls
+ * that are lent the same writable memory must follow each other.
+ *
+ * Memory is lent as a pointer and a length. Lengths are counted in elements of the pointer's type: 32-bit words for
+ * uint32_t, bytes for uint8_t. A length of 0 may go with a null pointer. Every other pointer must be valid for the
+ * whole length, words must be aligned as uint32_t asks, and two runs that are lent to one call must not overlap.
+ * That is all that a caller has to see to. Within these terms no content and no length, not even of a damaged table,
+ * makes a call fault, run on without end, or touch memory that was not lent.
+ *
+ * Every call is fixed by what is lent to it: the same input gives the same answer and the same words.
+ *
+ *     static uint32_t table[TAB_TABLE_WORDS(100)], work[TAB_WORK_WORDS(100)];
+ *     static uint8_t out[144];
+ *     uint32_t script[] = {TAB_PFA, 0, 0, 5, TAB_PFA, 0, 0, 8, TAB_LENGTH, 0, 0, 0}, results[6];
+ *
+ *     tab_set_up(table, TAB_TABLE_WORDS(100), 100);
+ *     tab_outcome o = tab_run(table, TAB_TABLE_WORDS(100), work, TAB_WORK_WORDS(100), script, 12, results, 6);
+ *     // o.answer is TAB_DONE, o.count is 3, results[4] is TAB_IS_NUMBER, results[5] is 2
+ *     o = tab_write(table, TAB_TABLE_WORDS(100), work, TAB_WORK_WORDS(100), 0, out, sizeof out);
+ *     // o.answer is TAB_DONE, o.count is 72, out starts with "(10,5)" and 66 blanks
+ *
+ *
+ * LISTS
+ *
+ * An atom is a whole number from 0 to 2^32 - 1. A list is a finite sequence of elements, each an atom or a list.
+ * The list with no element is the null list. A list's own elements, without what is in those that are lists, are its
+ * main level, and their number is its length. Its extent is the number of cells that it takes up unshared: its length,
+ * plus the extents of the elements that are lists.
+ *
+ *
+ * THE TABLE
+ *
+ * A pool of N cells, 1 <= N <= TAB_CELLS, is a table of exactly TAB_TABLE_WORDS(N) words in the machine's byte order:
+ *
+ *   word 0                           N
+ *   word 1                           the first free cell
+ *   words 2 to 65                    holders 0 to 63: each names the first cell of a list, or is 0 for the null list
+ *   words 66 + 4(c-1) and 3 more     cell c, for c from 1 to N: type T, element E, count R, successor S
+ *
+ * T is 0 if E is an atom, 1 if E names a list. S names the next cell of the same list. The number 0 names the null
+ * list or ends a chain. R is 0 in a free cell; in a live cell it is the number of holders and live cells that name
+ * the cell. Free cells are chained by S from word 1. T and E of a free cell have no meaning and stay as they were.
+ *
+ * A caller may look at all of this. A caller who changes it must leave the table sound: the chain from word 1 holds
+ * every free cell once and no live cell, and ends in 0; every live cell has T 0 or 1; every S and every list element
+ * of a live cell, and every holder, is 0 or a live cell; every R is right; no live cell reaches itself. Each call that
+ * works on a table checks this first and answers TAB_UNSOUND, and changes nothing in the table, if it does not hold.
+ *
+ *
+ * THE WORK SPACE
+ *
+ * A call on a table of N cells is lent TAB_WORK_WORDS(N) = 2N words or more to work in. Their content does not matter.
+ * After the answers TAB_TABLE_SIZE to TAB_RESULTS, TAB_TEXT_SIZE and TAB_END, and after TAB_HOLDER from tab_read or
+ * tab_write, the work space is untouched. After every other answer, TAB_DONE among them, its first 2N words are 0 and
+ * the rest is untouched.
+ *
+ *
+ * TEXT
+ *
+ * ASCII, in records of 72 bytes. A list is "(", its elements parted by ",", and ")". An atom is 1 to 11 octal digits
+ * of a value below 2^32. There are no blanks inside. The list starts with the first byte and runs on across records
+ * with nothing between. After its last ")" the rest of that record is blank (0x20). Records after that one are not
+ * looked at. Text has at most TAB_TEXT bytes and lists at most TAB_LEVELS levels, the outermost counted.
+ */
+#ifndef TABESHILO_H
+#define TABESHILO_H
+
+#include <stddef.h>
+#include <stdint.h>
+
+#ifdef __cplusplus
+extern "C" {
+#endif
+
+/* Limits. */
+enum {
+    TAB_CELLS = 4000,      /* most cells of a pool */
+    TAB_HOLDERS = 64,      /* holders of a table; they have the numbers 0 to 63 */
+    TAB_OPERATIONS = 4096, /* most operations of a script */
+    TAB_RECORD = 72,       /* bytes of a text record */
+    TAB_TEXT = 65520,      /* most bytes of a text: 910 records */
+    TAB_LEVELS = 200       /* most levels of a list in a text */
+};
+
+/* Words of a table of n cells, and the words to lend as its work space; n is 1 to TAB_CELLS. */
+#define TAB_TABLE_WORDS(n) (2 + (size_t)TAB_HOLDERS + 4 * (size_t)(n))
+#define TAB_WORK_WORDS(n) (2 * (size_t)(n))
+
+/* Words of a script of n operations, and the words to lend for its results; n is 0 to TAB_OPERATIONS. */
+#define TAB_SCRIPT_WORDS(n) (4 * (size_t)(n))
+#define TAB_RESULT_WORDS(n) (2 * (size_t)(n))
+
+/*
+ * Answers. Every call answers with one of these. Beside each stands when it is given; a call gives the first that
+ * holds, in the order that its own comment names.
+ */
+enum {
+    TAB_DONE = 0,         /* the call did what it was asked to do */
+    TAB_TABLE_SIZE = 1,   /* N is not 1 to 4,000, or the table has not 66 + 4N words */
+    TAB_WORK_SPACE = 2,   /* fewer than 2N words of work space were lent */
+    TAB_SCRIPT = 3,       /* the script is not a multiple of four words, or has over 4,096 operations */
+    TAB_RESULTS = 4,      /* fewer than two result words per operation were lent */
+    TAB_UNSOUND = 5,      /* the table is not sound */
+    TAB_CODE = 6,         /* an operation's code is not 1 to 11 */
+    TAB_HOLDER = 7,       /* a holder that is used has a number over 63 */
+    TAB_SAME = 8,         /* a = b in an operation that uses both */
+    TAB_NULL = 9,         /* a is null in DECAP, ADV or FIRST */
+    TAB_OCCUPIED = 10,    /* b is not null in DECAP, ADV, BORROW or CINV; or the holder to read into is not */
+    TAB_SHARED = 11,      /* DECAP: the first cell has a count over 1; INV: some cell of a's main level has;
+                             CONC: the same, when b is not null */
+    TAB_NO_ROOM = 12,     /* too few free cells: PFA and PFL need 1, CINV the length of a, reading the list's extent */
+    TAB_TEXT_SIZE = 13,   /* the text is not a multiple of 72 bytes, or is over 65,520 bytes */
+    TAB_END = 14,         /* the text has 0 bytes */
+    TAB_NOT_A_LIST = 15,  /* a character that the text form does not allow there, or text that runs out */
+    TAB_ATOM = 16,        /* a twelfth digit, or an eleventh that makes the value 2^32 or more */
+    TAB_DEEP = 17,        /* a "(" that opens level 201 */
+    TAB_OUTPUT = 18       /* the output cannot take all characters of the list */
+};
+
+/*
+ * What a call gives: its answer, and a number that the call's comment names. The number is 0 after every answer but
+ * TAB_DONE; tab_run alone gives one beside the answers 6 to 12 too.
+ */
+typedef struct {
+    uint32_t answer;
+    uint32_t count;
+} tab_outcome;
+
+/*
+ * Sets up a pool: N = cells, all cells free and chained in order from cell 1, all holders null.
+ *
+ * table, words   the words to set up; what they hold before does not matter
+ * cells          N
+ *
+ * Returns TAB_DONE, and every word of the table is set. Or TAB_TABLE_SIZE, if N is not 1 to TAB_CELLS or
+ * words != TAB_TABLE_WORDS(N), and no word is changed.
+ */
+uint32_t tab_set_up(uint32_t *table, size_t words, uint32_t cells);
+
+/*
+ * The operations of a script, by code. a and b are holder numbers here, and "list a" is the list that holder a names.
+ * PFA uses a and v; ERASE, INV, FIRST and LENGTH use a alone; all others use a and b.
+ */
+enum {
+    TAB_PFA = 1,    /* prefix atom v to list a */
+    TAB_PFL = 2,    /* prefix list b to list a as one element; b becomes null */
+    TAB_DECAP = 3,  /* the first element of a comes off: a list goes to b, an atom to the result */
+    TAB_ADV = 4,    /* the same for a and b alone: whoever else holds the old list keeps it whole */
+    TAB_BORROW = 5, /* b becomes list a too, shared */
+    TAB_ERASE = 6,  /* a becomes null; cells that nobody holds any more are freed */
+    TAB_INV = 7,    /* list a is reversed in its own cells */
+    TAB_CINV = 8,   /* b becomes a reversed copy of list a's main level; elements that are lists are shared */
+    TAB_CONC = 9,   /* list b is joined after list a in a's own cells; b becomes null */
+    TAB_FIRST = 10, /* tells the first element of list a */
+    TAB_LENGTH = 11 /* tells the number of elements of list a */
+};
+
+/* The kind word of an operation's result; its value word is named beside it. */
+enum {
+    TAB_IS_ATOM = 0,   /* value: the atom (DECAP, ADV, FIRST) */
+    TAB_IS_LIST = 1,   /* value: 0 (DECAP, ADV, FIRST) */
+    TAB_IS_NUMBER = 2, /* value: LENGTH: the length; ERASE: how many cells were freed */
+    TAB_IS_NOTHING = 3 /* value: 0 (the rest) */
+};
+
+/*
+ * Runs a script: its operations one after the other, up to the first that is refused.
+ *
+ * table, table_words       the pool, changed by the operations
+ * work, work_words         work space
+ * script, script_words     four words an operation: code, a, b, v; words that the operation does not use are not
+ *                          looked at
+ * results, results_words   two words for each operation done: kind and value
+ *
+ * Answers TAB_TABLE_SIZE, TAB_WORK_SPACE, TAB_SCRIPT, TAB_RESULTS and TAB_UNSOUND in this order, before anything is
+ * done; the table and the results are unchanged then. After that each operation in turn may be refused by TAB_CODE,
+ * TAB_HOLDER, TAB_SAME, TAB_NULL, TAB_OCCUPIED, TAB_SHARED or TAB_NO_ROOM, in this order: it changes nothing, and the
+ * run ends there with what the operations before it did. Otherwise TAB_DONE.
+ *
+ * count: the operations done. Result words from 2 * count on are unchanged, and so is the script.
+ */
+tab_outcome tab_run(uint32_t *table, size_t table_words, uint32_t *work, size_t work_words, const uint32_t *script,
+                    size_t script_words, uint32_t *results, size_t results_words);
+
+/*
+ * Reads the list at the start of a text into a holder that is null. New cells come off the free chain in the order in
+ * which their elements begin in the text.
+ *
+ * table, table_words   the pool
+ * work, work_words     work space
+ * holder               0 to 63
+ * text, bytes          the text, unchanged
+ *
+ * Answers in this order: TAB_TABLE_SIZE, TAB_WORK_SPACE, TAB_HOLDER, TAB_TEXT_SIZE, TAB_END, TAB_UNSOUND,
+ * TAB_OCCUPIED, the earliest fault in the text (TAB_NOT_A_LIST, TAB_ATOM or TAB_DEEP), TAB_NO_ROOM, TAB_DONE. After
+ * any but TAB_DONE the table is unchanged.
+ *
+ * count: after TAB_DONE the bytes taken, a multiple of 72; the next list, if any, starts at text + count.
+ */
+tab_outcome tab_read(uint32_t *table, size_t table_words, uint32_t *work, size_t work_words, uint32_t holder,
+                     const uint8_t *text, size_t bytes);
+
+/*
+ * Writes a holder's list as text: atoms without leading zeros (zero is "0"), the last record filled with blanks.
+ *
+ * table, table_words   the pool, unchanged
+ * work, work_words     work space
+ * holder               0 to 63
+ * out, room            where the text goes; of it the largest multiple of 72 bytes up to TAB_TEXT can be used
+ *
+ * Answers in this order: TAB_TABLE_SIZE, TAB_WORK_SPACE, TAB_HOLDER, TAB_UNSOUND, then whichever comes at the earlier
+ * character of the text: TAB_DEEP (a "(" of level 201) or TAB_OUTPUT (a character behind the usable output), TAB_DEEP
+ * if both are at the same; else TAB_DONE. After any but TAB_DONE the output is unchanged.
+ *
+ * count: after TAB_DONE the bytes written, a multiple of 72 that is at least 72. Output from there on is unchanged.
+ */
+tab_outcome tab_write(const uint32_t *table, size_t table_words, uint32_t *work, size_t work_words, uint32_t holder,
+                      uint8_t *out, size_t room);
+
+/*
+ * Checks that a text starts with a list, and changes nothing. It needs no table and sets no limit to the list's
+ * extent.
+ *
+ * Answers TAB_TEXT_SIZE, TAB_END, the earliest of TAB_NOT_A_LIST, TAB_ATOM and TAB_DEEP, or TAB_DONE.
+ *
+ * count: after TAB_DONE the bytes taken, as tab_read would take them.
+ */
+tab_outcome tab_check(const uint8_t *text, size_t bytes);
+
+#ifdef __cplusplus
+}
+#endif
+
+#endif

@@ -1,0 +1,242 @@
+#include "calls.h"
+
+#include <signal.h>
+#include <stdio.h>
+#include <stdlib.h>
+#include <string.h>
+#include <unistd.h>
+
+#include "random.h"
+#include "reference.h"
+#include "texts.h"
+
+/* The library may have only some of its calls; the others are null then. */
+#pragma weak tab_set_up
+#pragma weak tab_run
+#pragma weak tab_read
+#pragma weak tab_write
+#pragma weak tab_check
+
+enum { SET_UP, RUN, READ, WRITE, CHECK, CALLS };
+static const char *const call_name[CALLS] = {"set_up", "run", "read", "write", "check"};
+static int present[CALLS];
+
+lent table, work, script, results, in, out;
+unsigned long long seed = 1, this_case, different;
+int calls_in_case, loud;
+
+static int this_call;
+static unsigned long long calls_made, answered[CALLS][19]; /* by answer */
+static unsigned long long done[12], refused[12][19];       /* operations by code; code 0: any other */
+
+uint32_t *own(lent *l) { return (uint32_t *)(void *)l->own; }
+
+static uint32_t *words(lent *l) { return (uint32_t *)(void *)l->at; }
+
+/* ---- Comparing */
+
+static void begin(int call) {
+    this_call = call;
+    calls_in_case++;
+    if (present[call]) calls_made++;
+}
+
+/* `number`: the one argument that is no memory, if there is one. */
+static void show(const char *number_name, uint32_t number, tab_outcome got, tab_outcome should) {
+    printf("  %s", call_name[this_call]);
+    if (number_name) printf(", %s %u", number_name, number);
+    printf(": answer %u, count %u", got.answer, got.count);
+    if (got.answer != should.answer || got.count != should.count)
+        printf(", should be answer %u, count %u", should.answer, should.count);
+    printf("\n");
+}
+
+static void compare(const char *number_name, uint32_t number, tab_outcome got, tab_outcome should, lent *const *all,
+                    int count) {
+    int differs = got.answer != should.answer || got.count != should.count;
+    for (int i = 0; i < count; i++) differs |= lent_differs(all[i]);
+    answered[this_call][should.answer]++;
+    if (loud || differs) show(number_name, number, got, should);
+    if (!differs) return;
+    for (int i = 0; i < count; i++) lent_show(all[i], loud ? MOST_BYTES : 120);
+    printf("DIFFERENT: tab_%s, call %d of the case. Replay: tests/diff %llu %llu\n", call_name[this_call],
+           calls_in_case, seed, this_case);
+    different++;
+}
+
+/* A call that faults or does not come back ends the test. */
+static void no_answer(int number) {
+    printf("DIFFERENT: tab_%s, call %d of the case, %s. Replay: tests/diff %llu %llu\n", call_name[this_call],
+           calls_in_case, number == SIGALRM ? "does not come back" : "faults", seed, this_case);
+    fflush(stdout);
+    _exit(1);
+}
+
+/* ---- The calls */
+
+uint32_t call_set_up(size_t table_words, uint32_t cells) {
+    begin(SET_UP);
+    fill_random(table.own, 4 * table_words);
+    lend(&table, table_words);
+    tab_outcome should = {ref_set_up(own(&table), table_words, cells), 0};
+    if (present[SET_UP]) {
+        tab_outcome got = {tab_set_up(words(&table), table_words, cells), 0};
+        compare("cells", cells, got, should, (lent *const[]){&table}, 1);
+    }
+    return should.answer;
+}
+
+/* Counts the operations of a script by what became of them. */
+static void count_operations(tab_outcome o, const uint32_t *operations, size_t script_words) {
+    if (o.answer >= TAB_TABLE_SIZE && o.answer <= TAB_UNSOUND) return;
+    for (uint32_t i = 0; i < o.count; i++) done[operations[4 * i]]++;
+    if (o.count == script_words / 4) return;
+    uint32_t code = operations[4 * o.count];
+    refused[code <= 11 ? code : 0][o.answer]++;
+}
+
+tab_outcome call_run(size_t table_words, size_t work_words, size_t script_words, size_t results_words) {
+    begin(RUN);
+    fill_random(work.own, 4 * work_words);
+    fill_random(results.own, 4 * results_words);
+    lend(&table, table_words);
+    lend(&work, work_words);
+    lend(&script, script_words);
+    lend(&results, results_words);
+    tab_outcome should = ref_run(own(&table), table_words, own(&work), work_words, own(&script), script_words,
+                                 own(&results), results_words);
+    if (present[RUN]) {
+        count_operations(should, own(&script), script_words);
+        tab_outcome got = tab_run(words(&table), table_words, words(&work), work_words, words(&script), script_words,
+                                  words(&results), results_words);
+        compare(NULL, 0, got, should, (lent *const[]){&table, &work, &script, &results}, 4);
+    }
+    return should;
+}
+
+tab_outcome call_read(size_t table_words, size_t work_words, uint32_t holder, size_t bytes) {
+    begin(READ);
+    fill_random(work.own, 4 * work_words);
+    lend(&table, table_words);
+    lend(&work, work_words);
+    lend(&in, bytes);
+    tab_outcome should = ref_read(own(&table), table_words, own(&work), work_words, holder, in.own, bytes);
+    if (present[READ]) {
+        tab_outcome got = tab_read(words(&table), table_words, words(&work), work_words, holder, in.at, bytes);
+        compare("holder", holder, got, should, (lent *const[]){&table, &work, &in}, 3);
+    }
+    return should;
+}
+
+tab_outcome call_write(size_t table_words, size_t work_words, uint32_t holder, size_t room) {
+    begin(WRITE);
+    fill_random(work.own, 4 * work_words);
+    fill_random(out.own, room);
+    lend(&table, table_words);
+    lend(&work, work_words);
+    lend(&out, room);
+    tab_outcome should = ref_write(own(&table), table_words, own(&work), work_words, holder, out.own, room);
+    if (present[WRITE]) {
+        tab_outcome got = tab_write(words(&table), table_words, words(&work), work_words, holder, out.at, room);
+        compare("holder", holder, got, should, (lent *const[]){&table, &work, &out}, 3);
+    }
+    return should;
+}
+
+tab_outcome call_check(size_t bytes) {
+    begin(CHECK);
+    lend(&in, bytes);
+    tab_outcome should = ref_check(in.own, bytes);
+    if (present[CHECK]) compare(NULL, 0, tab_check(in.at, bytes), should, (lent *const[]){&in}, 1);
+    return should;
+}
+
+void calls_start(void) {
+    present[SET_UP] = tab_set_up != NULL;
+    present[RUN] = tab_run != NULL;
+    present[READ] = tab_read != NULL;
+    present[WRITE] = tab_write != NULL;
+    present[CHECK] = tab_check != NULL;
+    lent_make(&table, "table", 4, 16100);
+    lent_make(&work, "work", 4, 8100);
+    lent_make(&script, "script", 4, 16500);
+    lent_make(&results, "results", 4, 8300);
+    lent_make(&in, "text", 1, MOST_BYTES);
+    lent_make(&out, "out", 1, MOST_BYTES);
+    signal(SIGSEGV, no_answer);
+    signal(SIGBUS, no_answer);
+    signal(SIGILL, no_answer);
+    signal(SIGFPE, no_answer);
+    signal(SIGALRM, no_answer);
+}
+
+/* ---- Counting */
+
+#define SET(a) (1u << (a))
+
+/* The answers that each call can give. */
+static const unsigned answers[CALLS] = {
+    [SET_UP] = SET(0) | SET(1),
+    [RUN] = SET(13) - 1,
+    [READ] = SET(0) | SET(1) | SET(2) | SET(5) | SET(7) | SET(10) | SET(12) | SET(13) | SET(14) | SET(15) | SET(16) |
+             SET(17),
+    [WRITE] = SET(0) | SET(1) | SET(2) | SET(5) | SET(7) | SET(17) | SET(18),
+    [CHECK] = SET(0) | SET(13) | SET(14) | SET(15) | SET(16) | SET(17),
+};
+
+/* The answers that can refuse each operation. */
+static const unsigned refusals[12] = {
+    [0] = SET(6),
+    [TAB_PFA] = SET(7) | SET(12),
+    [TAB_PFL] = SET(7) | SET(8) | SET(12),
+    [TAB_DECAP] = SET(7) | SET(8) | SET(9) | SET(10) | SET(11),
+    [TAB_ADV] = SET(7) | SET(8) | SET(9) | SET(10),
+    [TAB_BORROW] = SET(7) | SET(8) | SET(10),
+    [TAB_ERASE] = SET(7),
+    [TAB_INV] = SET(7) | SET(11),
+    [TAB_CINV] = SET(7) | SET(8) | SET(10) | SET(12),
+    [TAB_CONC] = SET(7) | SET(8) | SET(11),
+    [TAB_FIRST] = SET(7) | SET(9),
+    [TAB_LENGTH] = SET(7),
+};
+
+int too_weak(void) {
+    int weak = 0;
+    for (int call = 0; call < CALLS; call++) {
+        for (unsigned a = 0; a < 19 && present[call]; a++) {
+            if ((answers[call] & SET(a)) == 0 || answered[call][a] > 0) continue;
+            printf("tests: tab_%s never answered %u\n", call_name[call], a);
+            weak = 1;
+        }
+    }
+    for (unsigned code = 0; code < 12 && present[RUN]; code++) {
+        if (code > 0 && done[code] == 0) printf("tests: operation %u was never done\n", code), weak = 1;
+        for (unsigned a = 0; a < 19; a++) {
+            if ((refusals[code] & SET(a)) == 0 || refused[code][a] > 0) continue;
+            printf("tests: operation %u was never refused by %u\n", code, a);
+            weak = 1;
+        }
+    }
+    return weak;
+}
+
+int calls_missing(void) {
+    int missing = 0;
+    for (int call = 0; call < CALLS; call++) {
+        if (present[call]) continue;
+        printf("tests: the library has no tab_%s\n", call_name[call]);
+        missing = 1;
+    }
+    return missing;
+}
+
+void print_counts(void) {
+    printf("tests: seed %llu: %llu calls, %llu different", seed, calls_made, different);
+    for (int call = 0; call < CALLS; call++) {
+        printf("; %s", call_name[call]);
+        if (!present[call]) printf(" not there");
+        for (int a = 0; a < 19; a++)
+            if (answered[call][a] > 0) printf(" %d:%llu", a, answered[call][a]);
+    }
+    printf("\n");
+}

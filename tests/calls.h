@@ -1,0 +1,42 @@
+/*
+ * One call, made twice: by the library on memory lent for it, by the reference on a copy. The answers, the counts and
+ * all that was lent are compared. Whoever makes a call first puts what is to be lent in `own` of the runs below; work
+ * space, results and output are filled at random.
+ */
+#ifndef CALLS_H
+#define CALLS_H
+
+#include "lent.h"
+#include "tabeshilo.h"
+
+extern lent table, work, script, results, in, out;
+
+/* Where we are, for what is printed; `loud`: every call is printed. */
+extern unsigned long long seed, this_case;
+extern int calls_in_case, loud;
+
+/* Calls that differed. */
+extern unsigned long long different;
+
+/* The words of a run as the reference sees them. */
+uint32_t *own(lent *l);
+
+void calls_start(void);
+
+/* Each gives what the reference answers. */
+uint32_t call_set_up(size_t table_words, uint32_t cells);
+tab_outcome call_run(size_t table_words, size_t work_words, size_t script_words, size_t results_words);
+tab_outcome call_read(size_t table_words, size_t work_words, uint32_t holder, size_t bytes);
+tab_outcome call_write(size_t table_words, size_t work_words, uint32_t holder, size_t room);
+tab_outcome call_check(size_t bytes);
+
+/* One line: the calls made, by call and answer. */
+void print_counts(void);
+
+/* Says which calls the library does not have; gives whether there is one. */
+int calls_missing(void);
+
+/* Says which answers never came up, and which refusals of which operations: then the test is too weak to be trusted. */
+int too_weak(void);
+
+#endif

@@ -1,0 +1,20 @@
+/* The five calls once more, in plain C and from the rules alone: reference.c has them. */
+#ifndef REFERENCE_H
+#define REFERENCE_H
+
+#include "tabeshilo.h"
+
+uint32_t ref_set_up(uint32_t *table, size_t words, uint32_t cells);
+tab_outcome ref_run(uint32_t *table, size_t table_words, uint32_t *work, size_t work_words, const uint32_t *script,
+                    size_t script_words, uint32_t *results, size_t results_words);
+tab_outcome ref_read(uint32_t *table, size_t table_words, uint32_t *work, size_t work_words, uint32_t holder,
+                     const uint8_t *text, size_t bytes);
+tab_outcome ref_write(const uint32_t *table, size_t table_words, uint32_t *work, size_t work_words, uint32_t holder,
+                      uint8_t *out, size_t room);
+tab_outcome ref_check(const uint8_t *text, size_t bytes);
+
+/* For making scripts: takes a sound table, then one operation after the other; gives the answer, 0 if it was done. */
+void ref_open(const uint32_t *table);
+uint32_t ref_step(const uint32_t operation[4], uint32_t result[2]);
+
+#endif
