@@ -1,5 +1,4 @@
 -- What reading a text into a holder gives, for all words and bytes: every refusal before anything is changed, the earliest text fault before NO ROOM.
--- TEXT SIZE: not a multiple of a record, or too many bytes
 use mathlib.Core.Bool.{Bool, cond, not, _||_}
 use mathlib.Core.List.{List}
 use Prim.Native.Nat.{ℕ, _%_}
@@ -14,6 +13,7 @@ use Rattle.text.specs.Marks.{listIn}
 use Rattle.text.specs.Text.{verdict}
 use Rattle.calls.specs.Entry.{badTable, badWork, noHolder, shown, unsound, stored, used}
 
+-- TEXT SIZE: not a multiple of a record, or too many bytes
 abbrev pub badText : List ℕ → Bool
 badText xs = not (eqb (length xs % recordBytes) 0) || ltb textMost (length xs)
 

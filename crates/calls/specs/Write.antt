@@ -1,5 +1,4 @@
 -- What writing the list of a holder gives, for all words and bytes: DEEP and OUTPUT are judged before a byte is written.
--- the answer, the bytes written, and the lent words and bytes afterwards; the table is only read
 use mathlib.Core.Bool.{cond}
 use mathlib.Core.List.{List}
 use Prim.Native.Nat.{ℕ}
@@ -12,6 +11,7 @@ use Rattle.text.specs.ListText.{textOf, written}
 use Rattle.text.specs.Writing.{usable, judged}
 use Rattle.calls.specs.Entry.{badTable, badWork, noHolder, shown, unsound, used, over}
 
+-- the answer, the bytes written, and the lent words and bytes afterwards; the table is only read
 pub record Write : Type 0 where
   pub answer : ℕ
   pub count : ℕ

@@ -72,7 +72,7 @@ fn ending(text: &[u8], from: usize, elements: u32) -> Scanned
     let mut i = from;
     while i % Record::BYTES != 0 {
         if text[i] != b' ' {
-            return Scanned::refused(15);
+            return Scanned::refused(answers::Answer::NOT_A_LIST);
         }
         i += 1;
     }
@@ -85,7 +85,7 @@ pub fn scan(text: &[u8]) -> Scanned
     ensures { λ r. ⌜ r ≡ scannedAs (now (text .entry)) ⌝ }
 {
     if text[0] != b'(' {
-        return Scanned::refused(15);
+        return Scanned::refused(answers::Answer::NOT_A_LIST);
     }
     let mut p = Place::opened();
     while p.at < text.len() {
@@ -98,20 +98,20 @@ pub fn scan(text: &[u8]) -> Scanned
             return ending(text, p.at, p.elements);
         }
     }
-    Scanned::refused(15)
+    Scanned::refused(answers::Answer::NOT_A_LIST)
 }
 
 pub fn check(text: &[u8]) -> Answer
     ensures { λ r. ⌜ r ≡ answeredAs (verdict (now (text .entry))) ⌝ }
 {
     if text.len() % Record::BYTES != 0 {
-        return Answer::refused(13);
+        return Answer::refused(answers::Answer::TEXT_SIZE);
     }
     if text.len() > Record::TEXT {
-        return Answer::refused(13);
+        return Answer::refused(answers::Answer::TEXT_SIZE);
     }
     if text.len() == 0 {
-        return Answer::refused(14);
+        return Answer::refused(answers::Answer::END);
     }
     let s = scan(text);
     if s.answer == 0 {

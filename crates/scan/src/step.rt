@@ -56,7 +56,7 @@ fn closed(text: &[u8], depth: u32, elements: u32, at: usize) -> Step
     let mut i = at;
     while d > 0 {
         if i >= text.len() {
-            return Step::Fault(15);
+            return Step::Fault(answers::Answer::NOT_A_LIST);
         }
         if text[i] == b',' {
             return Step::Mark(Place {
@@ -67,7 +67,7 @@ fn closed(text: &[u8], depth: u32, elements: u32, at: usize) -> Step
             });
         }
         if text[i] != b')' {
-            return Step::Fault(15);
+            return Step::Fault(answers::Answer::NOT_A_LIST);
         }
         i += 1;
         d -= 1;
@@ -87,7 +87,7 @@ fn open(depth: u32, elements: u32, at: usize) -> Step
     ensures { λ r. ⌜ r ≡ openOf depth elements at ⌝ }
 {
     if depth >= Level::MOST {
-        return Step::Fault(17);
+        return Step::Fault(answers::Answer::DEEP);
     }
     Step::Mark(Place {
         at: at + 1,
@@ -119,10 +119,10 @@ fn digits(text: &[u8], p: Place) -> Step
     let at = p.at;
     let end = octals::run_end(text, at + 1);
     if too_long(end - at, text[at]) {
-        return Step::Fault(16);
+        return Step::Fault(answers::Answer::ATOM);
     }
     if end >= text.len() {
-        return Step::Fault(15);
+        return Step::Fault(answers::Answer::NOT_A_LIST);
     }
     if text[end] == b',' {
         return Step::Mark(Place {
@@ -133,7 +133,7 @@ fn digits(text: &[u8], p: Place) -> Step
         });
     }
     if text[end] != b')' {
-        return Step::Fault(15);
+        return Step::Fault(answers::Answer::NOT_A_LIST);
     }
     closed(text, p.depth - 1, p.elements + 1, end + 1)
 }
@@ -146,7 +146,7 @@ fn atom(text: &[u8], p: Place) -> Step
 {
     let second = p.at + 1;
     if second >= text.len() {
-        return Step::Fault(15);
+        return Step::Fault(answers::Answer::NOT_A_LIST);
     }
     if text[second] == b',' {
         return Step::Mark(Place {
@@ -171,10 +171,10 @@ pub fn take(text: &[u8], p: Place) -> Step
         return open(p.depth, p.elements, at);
     }
     if text[at] != b')' {
-        return Step::Fault(15);
+        return Step::Fault(answers::Answer::NOT_A_LIST);
     }
     if p.first {
         return closed(text, p.depth - 1, p.elements, at + 1);
     }
-    Step::Fault(15)
+    Step::Fault(answers::Answer::NOT_A_LIST)
 }

@@ -1,5 +1,4 @@
 -- A table of zeros shows a pool with nothing linked, and the pool that is set up is sound and all free.
--- all words set to 0
 use mathlib.Core.Path.{_≡_, refl, sym, ap, _∙_, subst}
 use mathlib.Core.Logic.{_≢_}
 use mathlib.Core.Bool.{true, false}
@@ -23,6 +22,7 @@ use Rattle.table.specs.WordsLaws.{view-words, words-table, shown-words}
 use Rattle.setup.specs.SetUp.{setUp, SetUp}
 use Rattle.setup.specs.Linked.{following, linked, following-off}
 
+-- all words set to 0
 cleared-all : (ts : List ℕ) → cleared (length ts) ts ≡ replicate (length ts) 0
 cleared-all ts = ap (λ (u : List ℕ). replicate (length ts) 0 ++ u) (drop-length ts) ∙ append-nil (replicate (length ts) 0)
 

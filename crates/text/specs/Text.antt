@@ -169,6 +169,6 @@ verdict s =
     (refusal TEXT-SIZE))
     (refusal TEXT-SIZE)
 
--- where the records after the first list begin: past the end where the check refuses
+-- where the records after the first list begin: the end where the check refuses
 abbrev pub restAt : List ℕ → ℕ
 restAt s = cond (eqb ((verdict s) .no) 0) ((verdict s) .taken) (length s)
