@@ -8,11 +8,9 @@ use native.Mathlib.Decide.{ℕ-discrete}
 use borrow.Author.Tests.{ne-eqb}
 use lib.ListN.{length, drop, drop-of-length-le}
 use Rattle.lists.specs.Lst.{Lst, nil, atom, list, Atoms}
-use Rattle.scan.specs.Places as places
 use Rattle.scan.specs.Places.{opened, phaseOf, stateOf, Prospect, prospectAt, emitted, Inside}
 use Rattle.scan.specs.Starts.{no-start}
 use Rattle.scan.specs.declared.step.Place.{Place}
-use Rattle.scan.specs.declared.step.Step.the-variants.{Mark, Fault}
 use Rattle.text.specs.Accepted.{accepted, sized, never-nought}
 use Rattle.text.specs.Bounds.{limits}
 use Rattle.text.specs.MarkLaws.{with-open}
@@ -20,12 +18,12 @@ use Rattle.text.specs.Marks as marks
 use Rattle.text.specs.Marks.{shut, value, marksOf, trace, listIn}
 use Rattle.text.specs.Text.{Answer, Step, State, at, place, begin, settle, run, answer, scanned, refusal}
 use Rattle.text.specs.TextLaws.{rests-refused, class}
-use Rattle.reading.specs.Accepting.{Taken, Accepting}
+use Rattle.reading.specs.Accepting.{Taken, Accepting, Goes}
 use Rattle.reading.specs.MarksLeft.{marksLeft, all-left}
 use Rattle.reading.specs.Underway.{Fitting}
 
 -- a refusal is not what the check says of a text that it takes
-refuted : {A : Type 0} (s : List ℕ) → Taken s → (k : ℕ) → scanned s ≡ refusal k → A
+pub refuted : {A : Type 0} (s : List ℕ) → Taken s → (k : ℕ) → scanned s ≡ refusal k → A
 refuted s t k e =
     let d = (sized s (t .bytes) (t .is)) .1 in
     let z : k ≡ 0 = ap (λ (a : Answer). a .no) (sym e ∙ d) in
@@ -83,10 +81,7 @@ module _ (s : List ℕ) (t : Taken s) (p : Place) (a : Accepting s p) where
           let stands : stateOf p ≡ st = simp (ne-eqb (p .depth) 0 n) in
           refuted s t 15 (sym (a .answered) ∙ ap (λ (u : State). answer (run u (drop (p .at) s))) stands ∙ ap (λ (l : List ℕ). answer (run st l)) (drop-of-length-le s (let l : length s ≤ p .at = omega arith in l)))
 
-  pub no-fault : {A : Type 0} (k : ℕ) → places.Taken s p (Fault k) → A
-  no-fault k e = refuted s t k (sym (a .answered) ∙ e)
-
-  pub goes-on : (q : Place) → places.Taken s p (Mark q) → Accepting s q
+  pub goes-on : (q : Place) → Goes s p q → Accepting s q
   goes-on q w = record {
     within = w .within;
     levelled = w .levelled;
@@ -94,5 +89,5 @@ module _ (s : List ℕ) (t : Taken s) (p : Place) (a : Accepting s p) where
     answered = sym (ap (λ (o : Prospect). o .answered) (w .same)) ∙ a .answered;
   }
 
-  pub marks-on : (q : Place) → places.Taken s p (Mark q) → (prospectAt s p) .marks ≡ emitted s p q ++ (prospectAt s q) .marks
+  pub marks-on : (q : Place) → Goes s p q → (prospectAt s p) .marks ≡ emitted s p q ++ (prospectAt s q) .marks
   marks-on q w = ap (λ (o : Prospect). o .marks) (w .same)

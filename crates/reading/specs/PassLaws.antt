@@ -7,15 +7,13 @@ use lib.ListN.{length}
 use Rattle.lists.specs.Lst.{extent}
 use Rattle.pool.specs.Operations.{read}
 use Rattle.pool.specs.Pool.{frees, Sound}
-use Rattle.scan.specs.Places as places
 use Rattle.scan.specs.Places.{opened, prospectAt, emitted}
 use Rattle.scan.specs.declared.step.Place.{Place}
-use Rattle.scan.specs.declared.step.Step.the-variants as step
 use Rattle.table.specs.declared.Shape.{Shape}
 use Rattle.table.specs.View.{view, Table, Shows}
 use Rattle.text.specs.Limits.{levels}
 use Rattle.text.specs.Marks.{Mark, listIn}
-use Rattle.reading.specs.Accepting.{Taken}
+use Rattle.reading.specs.Accepting.{Taken, Goes}
 use Rattle.reading.specs.AcceptingLaws.{first, goes-on, marks-on}
 use Rattle.reading.specs.Hooks.{hookAfter, stack, openCells}
 use Rattle.reading.specs.Pass.{Pass}
@@ -42,7 +40,7 @@ module _ (s : Shape) (ts : List ℕ) (h : ℕ) (text : List ℕ) (taken : Taken 
     pub over : p .depth ≡ 0 → Shows s us (read (view s ts) h (listIn text))
     over z = record { table = a .table; is = a .after .over z }
 
-    module _ (deep : 1 ≤ p .depth) (q : Place) (w : places.Taken text p (step.Mark q)) where
+    module _ (deep : 1 ≤ p .depth) (q : Place) (w : Goes text p q) where
       abbrev later : List Mark
       later = (prospectAt text q) .marks
 

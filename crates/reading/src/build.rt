@@ -15,9 +15,8 @@ ghost use Rattle.reading.specs.Underway.{Ready, Steps};
 use crate::digits;
 use crate::hook;
 use crate::hook::Hook;
-use scan::step;
+use crate::next;
 use scan::step::Place;
-use scan::step::Step;
 use table::Shape;
 
 // The lists of the levels above `to` end: each gets null where its next cell would be named.
@@ -93,10 +92,7 @@ pub fn build(s: Shape, t: &mut [u32], h: usize, text: &[u8])
     let mut k = Hook { cell: 0, inside: 0 };
     let mut p = Place::opened();
     while p.depth > 0 {
-        let read = step::take(text, p);
-        let Step::Mark(q) = read else {
-            return;
-        };
+        let q = next::next(text, p);
         k = add(s, t, h, k, &mut lists, text, p, q);
         p = q;
     }

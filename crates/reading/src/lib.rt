@@ -19,6 +19,7 @@ use table::Shape;
 pub mod build;
 pub mod digits;
 pub mod hook;
+pub mod next;
 pub mod room;
 
 // A sound table and a text of a right size.

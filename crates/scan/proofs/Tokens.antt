@@ -257,6 +257,16 @@ module _ (s : List ℕ) (p : Place) (h : Inside s p) where
       emits-shuts x (suc k) (omega arith) e (omega arith) ∙ ap (λ (ms : List Mark). ms ++ (shut ∷ shuts k)) (sym none))
       (ap (λ (x : Bool). mayShut (phaseOf x)) f) q u w)
 
+  stood : (prospectAt s p) .answered ≡ there .answered
+  stood = ap (λ (st : State). (prospect st (drop (p .at) s)) .answered) (standing p (h .deep))
+
+  pub shut-answered : p .first ≡ true → getD s (p .at) 0 ≡ 41
+      → (prospectAt s p) .answered ≡ (prospect (closedAt (p .depth - 1) (p .at + 1)) (drop (p .at + 1) s)) .answered
+  shut-answered f q =
+      stood
+      ∙ ap (λ (o : Prospect). o .answered)
+      (shut-same s (p .at) scanAt (p .at) (omega arith) (h .some) (h .deep) (h .levelled) (ap (λ (x : Bool). mayShut (phaseOf x)) f) q)
+
   pub taken-early : p .first ≡ false → getD s (p .at) 0 ≡ 41 → Taken s p (Fault 15)
   taken-early f q =
       told-fault 15
@@ -316,6 +326,12 @@ module _ (s : List ℕ) (p : Place) (h : Inside s p) where
           told-in (Fault 15)
           (fault-told s (p .at) scanIn i (omega arith) some (h .deep) (h .levelled) (getD s i 0) 15 refl
           (behind-digits (p .depth) (on .digits) (on .value) (getD s i 0) ends x y (class (getD s i 0))))
+
+      pub atom-answered : i < length s → getD s i 0 ≡ 41
+          → (prospectAt s p) .answered ≡ (prospect (closedAt (p .depth - 1) (i + 1)) (drop (i + 1) s)) .answered
+      atom-answered some q =
+          stood
+          ∙ ap (λ (o : Prospect). o .answered) (on .same ∙ shut-same s (p .at) scanIn i (omega arith) some (h .deep) (h .levelled) refl q)
 
       pub taken-closed : i < length s → getD s i 0 ≡ 41 → (u : Step) → Closed s (p .depth - 1) (p .elements + 1) (i + 1) u → Taken s p u
       taken-closed some q u w =
