@@ -1,4 +1,4 @@
-// The answer numbers of document 01, and the answer of a call with the number beside it.
+// The numbers that the calls go by: answers, codes of operations, and the answer of a call with the number beside it.
 ghost use mathlib.Core.Path.{_≡_};
 ghost use Rattle.answers.specs.Answers.{refused, done, outcome};
 
@@ -42,6 +42,33 @@ impl Answer {
     pub const DEEP: u32 = 17;
 
     pub const OUTPUT: u32 = 18;
+}
+
+// The codes of the operations.
+pub struct Code(pub u32);
+
+impl Code {
+    pub const PFA: u32 = 1;
+
+    pub const PFL: u32 = 2;
+
+    pub const DECAP: u32 = 3;
+
+    pub const ADV: u32 = 4;
+
+    pub const BORROW: u32 = 5;
+
+    pub const ERASE: u32 = 6;
+
+    pub const INV: u32 = 7;
+
+    pub const CINV: u32 = 8;
+
+    pub const CONC: u32 = 9;
+
+    pub const FIRST: u32 = 10;
+
+    pub const LENGTH: u32 = 11;
 }
 
 // An answer, and operations done, bytes taken or bytes written.

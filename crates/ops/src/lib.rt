@@ -15,34 +15,8 @@ pub mod head;
 pub mod level;
 
 use answers::Answer;
+use answers::Code;
 use table::Shape;
-
-// The codes of the operations.
-pub struct Code(pub u32);
-
-impl Code {
-    pub const PFA: u32 = 1;
-
-    pub const PFL: u32 = 2;
-
-    pub const DECAP: u32 = 3;
-
-    pub const ADV: u32 = 4;
-
-    pub const BORROW: u32 = 5;
-
-    pub const ERASE: u32 = 6;
-
-    pub const INV: u32 = 7;
-
-    pub const CINV: u32 = 8;
-
-    pub const CONC: u32 = 9;
-
-    pub const FIRST: u32 = 10;
-
-    pub const LENGTH: u32 = 11;
-}
 
 // What an operation answers: two result words, kind and value, or the number of its refusal.
 pub enum Reply {

@@ -1,16 +1,19 @@
--- Demand 1: a call refuses what the rows name, with the number of its first row, and nothing besides; what was lent to a refused call stays;
--- and a script ends where an operation is refused, all before it done.
+-- Demand 1: a call refuses what the rows name, with the number of its first row, and nothing besides; after a refusal table, results and
+-- output are as they were and the numbers 0, and the work space is as lent or its first 2N words are 0; and a script ends where an operation
+-- is refused, all before it done.
 use mathlib.Core.Path.{_≡_}
 use mathlib.Core.Logic.{_≢_}
 use mathlib.Core.List.{List, [], _∷_, _++_}
-use Prim.Native.Nat.{ℕ, suc}
+use Prim.Native.Nat.{ℕ, suc, _*_}
+use lib.ListN.{take}
 use Rattle.answers.specs.Answers.{DONE}
 use Rattle.pool.specs.Script.{Operation}
+use Rattle.table.specs.Sizes.{cleared}
 use Rattle.calls.specs.Entry.{shown, over}
 use Rattle.calls.specs.Run.{Ran, operations}
 use Rattle.promises.specs.Engine.{Engine}
-use Rattle.promises.specs.Rows.{First, Answers, None}
-use Rattle.promises.specs.Grounds.{setUpRows, runRows, operationRows}
+use Rattle.promises.specs.Rows.{Row, First, Answers, None}
+use Rattle.promises.specs.Grounds.{cellsTold, setUpRows, runRows, operationRows}
 use Rattle.promises.specs.TextGrounds.{readRows, writeRows, checkRows}
 
 -- four words of a script
@@ -45,7 +48,7 @@ WriteRefusals E = (ts ws : List ℕ) (h : ℕ) (out : List ℕ) → Answers (wri
 abbrev pub CheckRefusals : Engine → Type 0
 CheckRefusals E = (xs : List ℕ) → Answers (checkRows xs) (E .check xs .no)
 
--- after a refusal table, results and output are as they were; the text is only read
+-- after a refusal table, results and output are as they were, and each number is 0; the text is only read
 abbrev pub RefusedSetUp : Engine → Type 0
 RefusedSetUp E = (ts : List ℕ) (n : ℕ) → E .setUp ts n .answer ≢ DONE → E .setUp ts n .table ≡ ts
 
@@ -57,6 +60,23 @@ RefusedRead E = (ts ws : List ℕ) (h : ℕ) (xs : List ℕ) → let r = E .read
 
 abbrev pub RefusedWrite : Engine → Type 0
 RefusedWrite E = (ts ws : List ℕ) (h : ℕ) (out : List ℕ) → let r = E .write ts ws h out in r .answer ≢ DONE → (r .output ≡ out) × (r .count ≡ 0)
+
+abbrev pub RefusedCheck : Engine → Type 0
+RefusedCheck E = (xs : List ℕ) → E .check xs .no ≢ DONE → E .check xs .taken ≡ 0
+
+-- the work space vs afterwards: ws as lent where one of the rows holds, else its first 2N words are 0 and the rest as lent
+abbrev pub WorkSpace : List Row → List ℕ → List ℕ → List ℕ → Type 0
+WorkSpace rows ts ws vs = ((None rows → ⊥) → vs ≡ ws) × (None rows → vs ≡ cleared (2 * cellsTold ts) ws)
+
+-- the rows that leave it untouched: 1 to 4 of a run, 1, 2, 7, 13 and 14 of reading, 1, 2 and 7 of writing
+abbrev pub RunWork : Engine → Type 0
+RunWork E = (ts ws ss rs : List ℕ) → WorkSpace (take 4 (runRows ts ws ss rs)) ts ws (E .run ts ws ss rs .work)
+
+abbrev pub ReadWork : Engine → Type 0
+ReadWork E = (ts ws : List ℕ) (h : ℕ) (xs : List ℕ) → WorkSpace (take 5 (readRows ts ws h xs)) ts ws (E .read ts ws h xs .work)
+
+abbrev pub WriteWork : Engine → Type 0
+WriteWork E = (ts ws : List ℕ) (h : ℕ) (out : List ℕ) → WorkSpace (take 3 (writeRows ts ws h out)) ts ws (E .write ts ws h out .work)
 
 -- a script that passes its first rows is its operations one by one, up to one that is refused
 abbrev pub ScriptsStop : Engine → Type 0
@@ -74,4 +94,8 @@ pub record Demand1 (E : Engine) : Type 0 where
   pub refused-run : RefusedRun E
   pub refused-read : RefusedRead E
   pub refused-write : RefusedWrite E
+  pub refused-check : RefusedCheck E
+  pub run-work : RunWork E
+  pub read-work : ReadWork E
+  pub write-work : WriteWork E
   pub scripts-stop : ScriptsStop E

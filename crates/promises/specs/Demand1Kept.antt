@@ -35,7 +35,7 @@ use Rattle.promises.specs.Demand1.{wordsOf, alone, Stops, end, refused, 
 use Rattle.promises.specs.Tells.{tells-eq, tells-lt, tells-not, first, rows-before}
 use Rattle.promises.specs.TestsTell.{tells-size, tells-table, tells-work, tells-script, tells-results, tells-unsound, tells-holder, tells-text}
 use Rattle.promises.specs.OperationRows.{operation-answers}
-use Rattle.promises.specs.TextRows.{scan-answers, verdict-is, check-answers}
+use Rattle.promises.specs.TextRows.{scan-answers, verdict-is, check-answers, check-refused}
 use Rattle.promises.specs.WriteRows.{judged-answers}
 use Rattle.promises.specs.Tables.{Good, good, stores, stored-good, stored-same, good-table, good-sound}
 use Rattle.promises.specs.RunLaws.{Passed, passed-good, passes, passed-none, runs, run-ways}
@@ -43,6 +43,7 @@ use Rattle.promises.specs.ScriptDoes.{one-done}
 use Rattle.promises.specs.ReadLaws.{filledIn, read-ways}
 use Rattle.promises.specs.WriteLaws.{listOf-is, write-ways, judgement}
 use Rattle.promises.specs.Invariant.{set-up-ways}
+use Rattle.promises.specs.WorkDoes.{run-work, read-work, write-work}
 
 set-up-rows : SetUpRefusals ours
 set-up-rows ts n = set-up-ways ts n (λ (g : Given). Answers (setUpRows ts n) (g .answer))
@@ -143,7 +144,7 @@ write-rows ts ws h out =
 abbrev zeros : List ℕ
 zeros = 0 ∷ 0 ∷ []
 
-one-passes : (ts ws : List ℕ) (o : Operation) → Good ts → badWork ts ws ≡ false → Passed ts ws (wordsOf o) zeros
+pub one-passes : (ts ws : List ℕ) (o : Operation) → Good ts → badWork ts ws ≡ false → Passed ts ws (wordsOf o) zeros
 one-passes ts ws o g w = record { table = good-table ts g; work = w; script = refl; results = refl; sound = good-sound ts g }
 
 one-done-run : (ts ws : List ℕ) (o : Operation) → Good ts → badWork ts ws ≡ false → refusal (shown ts) o ≡ DONE
@@ -206,5 +207,9 @@ demand1 = record {
   refused-run = run-refused;
   refused-read = λ ts ws h xs. read-ways ts ws h xs (λ (r : Reading). r .answer ≢ DONE → (r .table ≡ ts) × (r .count ≡ 0)) (λ n us m _. (refl, refl)) (λ t m. absurd (m refl));
   refused-write = λ ts ws h out. write-ways ts ws h out (λ (r : Write). r .answer ≢ DONE → (r .output ≡ out) × (r .count ≡ 0)) (λ n us m _. (refl, refl)) (λ o l e j m. absurd (m refl));
+  refused-check = check-refused;
+  run-work = run-work;
+  read-work = read-work;
+  write-work = write-work;
   scripts-stop = script-stops;
 }

@@ -1,11 +1,11 @@
--- Demand 2: after whatever is done the holders have the lists of the report's machine, however the cells are shared; reading and writing
--- keep to the text form, and each undoes the other.
+-- Demand 2: setting up leaves document 01's words; after whatever is done the holders have the lists of the report's machine, however the
+-- cells are shared, in the cells that document 01 names; reading and writing keep to the text form, and each undoes the other.
 use mathlib.Core.Path.{_≡_}
 use mathlib.Core.Logic.{_≢_}
 use mathlib.Core.Bool.{false}
-use mathlib.Core.List.{List, _++_}
-use Prim.Native.Nat.{ℕ, _*_, _%_, _≤_, _<_, _^_}
-use lib.ListN.{length, getD, take, replicate}
+use mathlib.Core.List.{List, [], _++_}
+use Prim.Native.Nat.{ℕ, _+_, _*_, _%_, _≤_, _<_, _^_}
+use lib.ListN.{length, getD, take, drop, replicate}
 use Rattle.answers.specs.Answers.{DONE}
 use Rattle.lists.specs.Lst.{Lst, order, extent}
 use Rattle.pool.specs.Tally.{occ}
@@ -18,10 +18,11 @@ use Rattle.text.specs.Writing.{usable}
 use Rattle.calls.specs.Entry.{shown, over}
 use Rattle.calls.specs.Run.{operations}
 use Rattle.promises.specs.Engine.{Engine}
-use Rattle.promises.specs.Grounds.{BadTable, cellsTold}
-use Rattle.promises.specs.TextGrounds.{Has}
+use Rattle.promises.specs.Grounds.{BadTable, cellsTold, UsesB}
+use Rattle.promises.specs.TextGrounds.{Has, TakesRecords}
 use Rattle.promises.specs.Machine.{Lists, assign, turn, says, turnAll, Says}
 use Rattle.promises.specs.Demand1.{wordsOf}
+use Rattle.promises.specs.Cells.{OperationsUseTheirCells, ReadingUsesItsCells, BorrowShares, PrefixTakesHead, DecapFreesToHead, LiveCellsStay}
 
 -- the holders of a table have these lists
 abbrev pub Holds : List ℕ → Lists → Type 0
@@ -54,17 +55,33 @@ pub record Ready (ts ws : List ℕ) : Type 0 where
   pub work : 2 * cellsTold ts ≤ length ws
   pub sound : Sound (shown ts)
 
+-- word k of cell c: T, E, R, S
+abbrev pub cellWord : ℕ → ℕ → ℕ
+cellWord c k = 62 + 4 * c + k
+
+-- the words of n cells set up: the first free cell is 1, cell c is followed by c + 1, the last by 0, and all other words are 0
+pub record NewWords (n : ℕ) (us : List ℕ) : Type 0 where
+  pub cells : getD us 0 0 ≡ n
+  pub free : getD us 1 0 ≡ 1
+  pub holders : (h : ℕ) → h < holdersMost → getD us (2 + h) 0 ≡ 0
+  pub empty : (c k : ℕ) → 1 ≤ c → c ≤ n → k < 3 → getD us (cellWord c k) 0 ≡ 0
+  pub next : (c : ℕ) → 1 ≤ c → c < n → getD us (cellWord c 3) 0 ≡ c + 1
+  pub last : getD us (cellWord n 3) 0 ≡ 0
+
+abbrev pub SetUpGives : Engine → Type 0
+SetUpGives E = (ts : List ℕ) (n : ℕ) → let g = E .setUp ts n in g .answer ≡ DONE → (length (g .table) ≡ length ts) × NewWords n (g .table)
+
 -- an operation that is done
 abbrev pub OperationsGive : Engine → Type 0
 OperationsGive E =
     (ts ws rs : List ℕ) (o : Operation) (m : Lists) → Holds ts m → let r = E .run ts ws (wordsOf o) rs in
     r .answer ≡ DONE → Holds (r .table) (turn m o) × ((n : ℕ) × (r .results ≡ over (says m o n) rs))
 
--- holders that it does not name
+-- holders that it does not use
 abbrev pub OthersStay : Engine → Type 0
 OthersStay E =
     (ts ws rs : List ℕ) (o : Operation) (m : Lists) → Holds ts m → let r = E .run ts ws (wordsOf o) rs in
-    r .answer ≡ DONE → (i : ℕ) → i ≢ o .a → i ≢ o .b → Has (r .table) i (m i)
+    r .answer ≡ DONE → (i : ℕ) → i ≢ o .a → (UsesB (o .code) → i ≢ o .b) → Has (r .table) i (m i)
 
 -- a whole script, up to where it stops
 abbrev pub ScriptsGive : Engine → Type 0
@@ -81,6 +98,17 @@ ReadingGives E =
 
 abbrev pub CheckingGives : Engine → Type 0
 CheckingGives E = (xs : List ℕ) → let r = E .check xs in r .no ≡ DONE → (l : Lst) × (t : List ℕ) × Records xs (r .taken) t × (textOf l ≡ plain t)
+
+-- both take the first list's records and no more
+abbrev pub CheckingTakes : Engine → Type 0
+CheckingTakes E = (xs : List ℕ) → let r = E .check xs in r .no ≡ DONE → TakesRecords xs (r .taken)
+
+abbrev pub ReadingTakes : Engine → Type 0
+ReadingTakes E = (ts ws : List ℕ) (h : ℕ) (xs : List ℕ) → let r = E .read ts ws h xs in r .answer ≡ DONE → TakesRecords xs (r .count)
+
+-- the further call gives the records behind those that the check takes, and where it refuses the empty part
+abbrev pub RestGives : Engine → Type 0
+RestGives E = (xs : List ℕ) → let r = E .check xs in (r .no ≡ DONE → E .rest xs ≡ drop (r .taken) xs) × (r .no ≢ DONE → E .rest xs ≡ [])
 
 -- writing gives the text of the list, and the bytes written
 abbrev pub WritingGives : Engine → Type 0
@@ -107,11 +135,21 @@ ReadWritesBack E =
     (w .answer ≡ DONE) × (w .output ≡ over (filled (plain t)) out)
 
 pub record Demand2 (E : Engine) : Type 0 where
+  pub set-up-gives : SetUpGives E
   pub operations-give : OperationsGive E
+  pub operations-use-their-cells : OperationsUseTheirCells E
+  pub borrow-shares : BorrowShares E
+  pub prefix-takes-head : PrefixTakesHead E
+  pub decap-frees-to-head : DecapFreesToHead E
+  pub live-cells-stay : LiveCellsStay E
   pub others-stay : OthersStay E
   pub scripts-give : ScriptsGive E
   pub reading-gives : ReadingGives E
+  pub reading-uses-its-cells : ReadingUsesItsCells E
   pub checking-gives : CheckingGives E
+  pub checking-takes : CheckingTakes E
+  pub reading-takes : ReadingTakes E
+  pub rest-gives : RestGives E
   pub writing-gives : WritingGives E
   pub written-reads-back : WrittenReadsBack E
   pub read-writes-back : ReadWritesBack E

@@ -6,8 +6,8 @@ use Prim.Native.Nat.{ℕ, _*_, _≤_, _<_}
 use native.Mathlib.Omega.{arith}
 use lib.Dec.{eqb}
 use lib.ListN.{length, take, drop}
-use lib.Seq.{take-append-seam}
-use package.borrow.Author.Tests.{le-ltb, lt-leb, eq-eqb}
+use lib.Seq.{take-append-seam, drop-length}
+use package.borrow.Author.Tests.{le-ltb, lt-leb, eq-eqb, ne-eqb}
 use Rattle.answers.specs.Answers.{DONE, TEXT-SIZE, END}
 use Rattle.lists.specs.Lst.{Lst, extent}
 use Rattle.pool.specs.Pool.{Pool, holder, ListAt, frees}
@@ -28,12 +28,12 @@ use Rattle.calls.specs.Read.{Read as Reading, badText, readIn}
 use Rattle.calls.specs.Write.{Write, writeList, writeOut}
 use Rattle.promises.specs.Engine.{ours}
 use Rattle.promises.specs.Grounds.{cellsTold}
-use Rattle.promises.specs.TextGrounds.{Has}
+use Rattle.promises.specs.TextGrounds.{Has, TakesRecords}
 use Rattle.promises.specs.Machine.{Lists, assign, turn, turnAll, Says}
 use Rattle.promises.specs.Demand1.{wordsOf}
-use Rattle.promises.specs.Demand2.{Holds, filled, plain, Records, Ready, Demand2, OperationsGive, OthersStay, ScriptsGive, ReadingGives, CheckingGives, WritingGives, WrittenReadsBack, ReadWritesBack}
+use Rattle.promises.specs.Demand2.{Holds, filled, plain, Records, Ready, Demand2, OperationsGive, OthersStay, ScriptsGive, ReadingGives, CheckingGives, RestGives, WritingGives, WrittenReadsBack, ReadWritesBack}
 use Rattle.promises.specs.TestsTell.{tells-table, tells-unsound, cells-told}
-use Rattle.promises.specs.TextRows.{verdict-is}
+use Rattle.promises.specs.TextRows.{verdict-is, check-takes}
 use Rattle.promises.specs.OperationLaws.{HoldsIn, operation-does, assigned}
 use Rattle.promises.specs.Tables.{Good, good, stored-good, good-table, good-sound, fails}
 use Rattle.promises.specs.RunLaws.{passed-good, run-ways}
@@ -42,6 +42,9 @@ use Rattle.promises.specs.ReadLaws.{Taken, filledIn, read-ways, takes, r
 use Rattle.promises.specs.WriteLaws.{Opened, opened-good, opens, listOf-is, judgement, write-ways}
 use Rattle.promises.specs.OneOperation.{one-accepted, effect-stored}
 use Rattle.promises.specs.Invariant.{ran-stored, read-stored}
+use Rattle.promises.specs.CellsDo.{operations-use, reading-uses, borrow-shares, prefix-takes, decap-frees}
+use Rattle.promises.specs.CellsStay.{live-cells-stay}
+use Rattle.promises.specs.SetUpDoes.{set-up-gives}
 use Rattle.promises.specs.TextEnds.{records, plain-records}
 use Rattle.promises.specs.Atoms.{word-atoms}
 
@@ -92,6 +95,12 @@ reading ts ws h xs m k =
 
 checking : CheckingGives ours
 checking xs e = let (t, r, q) = text-list xs e in (listIn xs, t, r, q)
+
+after-list : RestGives ours
+after-list xs = ((λ e. ap begins (eq-eqb (verdict xs .no) 0 e)), (λ n. ap begins (ne-eqb (verdict xs .no) 0 n) ∙ drop-length xs))
+  where
+    begins : Bool → List ℕ
+    begins b = drop (cond b (verdict xs .taken) (length xs)) xs
 
 abbrev writing : List ℕ → List ℕ → Lst → List ℕ → Write
 writing ts ws l out = record { answer = DONE; count = length (written l); work = used ts ws; output = over (written l) out }
@@ -173,11 +182,21 @@ out-again ts ws vs out h xs t =
 
 pub demand2 : Demand2 ours
 demand2 = record {
+  set-up-gives = set-up-gives;
   operations-give = operation-gives;
+  operations-use-their-cells = operations-use;
+  borrow-shares = borrow-shares;
+  prefix-takes-head = prefix-takes;
+  decap-frees-to-head = decap-frees;
+  live-cells-stay = live-cells-stay;
   others-stay = others;
   scripts-give = script-gives;
   reading-gives = reading;
+  reading-uses-its-cells = reading-uses;
   checking-gives = checking;
+  checking-takes = check-takes;
+  reading-takes = λ ts ws h xs. read-ways ts ws h xs (λ (r : Reading). r .answer ≡ DONE → TakesRecords xs (r .count)) (λ n us d e. absurd (d e)) (λ t e. check-takes xs (t .right));
+  rest-gives = after-list;
   writing-gives = written-out;
   written-reads-back = back-again;
   read-writes-back = out-again;

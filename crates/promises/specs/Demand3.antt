@@ -1,5 +1,5 @@
--- Demand 3, about all tables that an engine's own calls can make: counts and arrows, no rings, free cells and reached ones, what ERASE frees
--- and says, and where there is no room.
+-- Demand 3: of all tables that an engine's own calls can make, counts and arrows, no rings, free cells and reached ones; and of every sound
+-- table, what ERASE frees and says, and where there is no room.
 use mathlib.Core.Path.{_≡_}
 use mathlib.Core.Logic.{_≢_, _⊎_, _↔_}
 use mathlib.Core.List.{List, [], _∷_}
@@ -8,7 +8,7 @@ use lib.ListN.{length, getD}
 use Rattle.answers.specs.Answers.{DONE, NO-ROOM}
 use Rattle.lists.specs.Lst.{Lst, extent}
 use Rattle.pool.specs.Tally.{occ}
-use Rattle.pool.specs.Pool.{Pool, countOf, holder, InPool, Walk, Chain}
+use Rattle.pool.specs.Pool.{Pool, countOf, holder, InPool, Walk, Chain, Sound}
 use Rattle.pool.specs.Held.{into}
 use Rattle.pool.specs.Number.{Number}
 use Rattle.pool.specs.SoundLaws.{Reaches}
@@ -18,7 +18,7 @@ use Rattle.text.specs.Marks.{listIn}
 use Rattle.calls.specs.Entry.{shown}
 use Rattle.promises.specs.Engine.{Engine, Reached}
 use Rattle.promises.specs.Rows.{None}
-use Rattle.promises.specs.Grounds.{NoHolder, BadWork, Needs, beforeRoom}
+use Rattle.promises.specs.Grounds.{NoHolder, BadTable, BadWork, Needs, beforeRoom}
 use Rattle.promises.specs.TextGrounds.{Has, sizeRows, faultRows}
 use Rattle.promises.specs.Demand1.{wordsOf}
 
@@ -58,31 +58,35 @@ FreeOrReached E = (ts : List ℕ) → Reached E ts → (c : ℕ) → InPool (sho
 abbrev pub NeverBoth : Engine → Type 0
 NeverBoth E = (ts : List ℕ) → Reached E ts → (c : ℕ) → InPool (shown ts .cells) c → Free (shown ts) c → Used (shown ts) c → ⊥
 
--- what becomes free with ERASE: the cells that only this holder reached; and its number counts them
+-- what becomes free with an ERASE that is done: the cells that only this holder reached; and its number counts them
 abbrev pub EraseFrees : Engine → Type 0
 EraseFrees E =
-    (ts ws rs : List ℕ) (a b v : ℕ) → Reached E ts → let r = E .run ts ws (erasing a b v) rs in
+    (ts ws rs : List ℕ) (a b v : ℕ) → let r = E .run ts ws (erasing a b v) rs in
     r .answer ≡ DONE → (c : ℕ) → InPool (shown ts .cells) c → ((Free (shown ts) c → ⊥) × Free (shown (r .table)) c) ↔ OnlyBy (shown ts) a c
 
 abbrev pub EraseCounts : Engine → Type 0
 EraseCounts E =
-    (ts ws rs : List ℕ) (a b v : ℕ) → Reached E ts → let r = E .run ts ws (erasing a b v) rs in
+    (ts ws rs : List ℕ) (a b v : ℕ) → let r = E .run ts ws (erasing a b v) rs in
     r .answer ≡ DONE → (getD (r .results) 0 0 ≡ 2) × Number (OnlyBy (shown ts) a) (length (shown ts .cells)) (getD (r .results) 1 0)
 
 -- the cells reached can be counted
 abbrev pub ReachedCounted : Engine → Type 0
 ReachedCounted E = (ts : List ℕ) → Reached E ts → (k : ℕ) × Number (Used (shown ts)) (length (shown ts .cells)) k
 
+-- a table that the engine's calls can make, or any sound one of a right size
+abbrev pub Lent : Engine → List ℕ → Type 0
+Lent E ts = Reached E ts ⊎ ((BadTable ts → ⊥) × Sound (shown ts))
+
 -- where all rows before it are passed, NO ROOM tells that reached and needed cells are together more than there are
 abbrev pub NoRoomToPerform : Engine → Type 0
 NoRoomToPerform E =
-    (ts ws rs : List ℕ) (o : Operation) (k n : ℕ) → Reached E ts → (BadWork ts ws → ⊥) → 2 ≤ length rs → None (beforeRoom (shown ts) o)
+    (ts ws rs : List ℕ) (o : Operation) (k n : ℕ) → Lent E ts → (BadWork ts ws → ⊥) → 2 ≤ length rs → None (beforeRoom (shown ts) o)
     → Number (Used (shown ts)) (length (shown ts .cells)) k → Needs (shown ts) o n
     → (E .run ts ws (wordsOf o) rs .answer ≡ NO-ROOM) ↔ (length (shown ts .cells) < k + n)
 
 abbrev pub NoRoomToRead : Engine → Type 0
 NoRoomToRead E =
-    (ts ws : List ℕ) (h : ℕ) (xs : List ℕ) (k : ℕ) → Reached E ts → (BadWork ts ws → ⊥) → (NoHolder h → ⊥) → None (sizeRows xs) → holder (shown ts) h ≡ 0 → None (faultRows xs)
+    (ts ws : List ℕ) (h : ℕ) (xs : List ℕ) (k : ℕ) → Lent E ts → (BadWork ts ws → ⊥) → (NoHolder h → ⊥) → None (sizeRows xs) → holder (shown ts) h ≡ 0 → None (faultRows xs)
     → Number (Used (shown ts)) (length (shown ts .cells)) k
     → (E .read ts ws h xs .answer ≡ NO-ROOM) ↔ (length (shown ts .cells) < k + extent (listIn xs))
 

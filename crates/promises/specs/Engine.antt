@@ -2,8 +2,9 @@
 use mathlib.Core.Path.{_≡_}
 use mathlib.Core.List.{List}
 use Prim.Native.Nat.{ℕ}
+use lib.ListN.{drop}
 use Rattle.answers.specs.Answers.{DONE}
-use Rattle.text.specs.Text.{Answer, verdict}
+use Rattle.text.specs.Text.{Answer, verdict, restAt}
 use Rattle.setup.specs.SetUp.{Given, setUp}
 use Rattle.calls.specs.Run.{Ran, ran}
 use Rattle.calls.specs.Read.{Read, readIn}
@@ -21,9 +22,11 @@ pub record Engine : Type 0 where
   pub write : List ℕ → List ℕ → ℕ → List ℕ → Write
   -- text
   pub check : List ℕ → Answer
+  -- text; the records after the first list
+  pub rest : List ℕ → List ℕ
 
 abbrev pub ours : Engine
-ours = record { setUp = setUp; run = ran; read = readIn; write = writeOut; check = verdict }
+ours = record { setUp = setUp; run = ran; read = readIn; write = writeOut; check = verdict; rest = λ xs. drop (restAt xs) xs }
 
 -- the tables that an engine's calls can make, from a set-up that is done on, whatever the arguments and the answers
 pub data Reached (E : Engine) : List ℕ → Type 0 where

@@ -4,6 +4,7 @@ pub mod Grounds
 pub mod TextGrounds
 pub mod Machine
 pub mod Demand1
+pub mod Cells
 pub mod Demand2
 pub mod Demand3
 pub mod Tells
@@ -20,7 +21,13 @@ pub mod ScriptDoes
 pub mod ReadLaws
 pub mod WriteLaws
 pub mod Invariant
+pub mod SetUpDoes
+pub mod WorkDoes
 pub mod OneOperation
+pub mod CellsDo
+pub mod LevelStays
+pub mod CopyStays
+pub mod CellsStay
 pub mod Demand1Kept
 pub mod FreeCells
 pub mod Demand3Kept
@@ -31,5 +38,11 @@ pub mod WrongEngines
 pub mod Computed
 pub mod Refuted
 pub mod SlipsRefuted
+pub mod LooseRefuted
 pub mod Keeps
 pub mod OneOutcome
+pub mod SameRun
+pub mod SameRows
+pub mod SameSetUp
+pub mod SameText
+pub mod AsOurs

@@ -10,13 +10,14 @@ use Rattle.lists.specs.Lst.{Lst, nil, atom}
 use Rattle.pool.specs.Fresh.{zero-at}
 use Rattle.pool.specs.Number.{Number, start, hit, miss}
 use Rattle.pool.specs.Pool.{Cell, Pool, countOf, holder, ListAt, Walk}
-use Rattle.pool.specs.Script.{PFA, Operation}
+use Rattle.pool.specs.Script.{PFA, LENGTH, Operation}
 use Rattle.table.specs.Limits.{holdersMost}
 use Rattle.setup.specs.SetUp.{setUp}
 use Rattle.calls.specs.Entry.{shown}
 use Rattle.promises.specs.Engine.{Engine, Reached, made, ranOn}
 use Rattle.promises.specs.Rows.{None}
 use Rattle.promises.specs.Grounds.{BadSize, BadCode, BadHolder, Shared, beforeRoom, withB, takingFirst, fillingB}
+use Rattle.promises.specs.Machine.{says}
 use Rattle.promises.specs.Demand1.{SetUpRefusals}
 use Rattle.promises.specs.Demand2.{Holds, OperationsGive, ScriptsGive}
 use Rattle.promises.specs.Demand3.{Used, erasing, EraseCounts, NoRoomToPerform}
@@ -72,12 +73,16 @@ two-null : Holds two (λ i. nil)
 unfolding computed
 two-null = all-null (shown two) refl
 
--- one answer for all: a PFA that is done gives its holder the atom
+-- one answer for all: LENGTH says a number
 pub constant-answer : OperationsGive constantAnswer → ⊥
-unfolding computed
-constant-answer d = no-atom (shown one .cells) 0 5 nil refl (d one (zeros 2) (zeros 2) (prefixing 0 5) (λ i. nil) one-null refl .0 0)
+unfolding computed says
+constant-answer d =
+    let o : Operation = record { code = LENGTH; a = 0; b = 0; v = 0 } in
+    let (n, e) = d one (zeros 2) (zeros 2) o (λ i. nil) one-null refl .1 in
+    let k : _≡_ {A = ℕ} 3 2 = ap (λ (qs : List ℕ). getD qs 0 0) e in
+    omega arith
 
--- changing nothing: the same
+-- changing nothing: a PFA that is done gives its holder the atom
 pub does-nothing : OperationsGive doesNothing → ⊥
 unfolding computed
 does-nothing d = no-atom (shown one .cells) 0 5 nil refl (d one (zeros 2) (zeros 2) (prefixing 0 5) (λ i. nil) one-null refl .0 0)
@@ -103,8 +108,7 @@ pub invents-number : EraseCounts inventsNumber → ⊥
 unfolding computed
 invents-number d =
     let t = full inventsNumber in
-    let r : Reached inventsNumber t = ranOn (zeros 2) (prefix 0 5) (zeros 2) (made (zeros 70) 1 refl) in
-    let n = d t (zeros 2) (zeros 2) 0 0 0 r refl .1 in
+    let n = d t (zeros 2) (zeros 2) 0 0 0 refl .1 in
     omega (arith, number-le n)
 
 -- PFA into a holder is refused for nothing but lack of room
@@ -142,5 +146,5 @@ never-lends d =
     let g = neverLends .run t (zeros 2) (erasing 0 0 0) (zeros 2) .table in
     let r : Reached neverLends g = ranOn (zeros 2) (erasing 0 0 0) (zeros 2) (ranOn (zeros 2) (prefix 0 5) (zeros 2) (made (zeros 70) 1 refl)) in
     let k : Number (Used (shown g)) 1 0 = miss (none-used (shown g) refl 1 (λ z. omega arith)) start in
-    let n = d g (zeros 2) (zeros 2) (prefixing 0 5) 0 1 r (λ h. omega arith) (omega arith) (pfa-passes (shown g) 5) k (inl (inl refl, refl)) .0 refl in
+    let n = d g (zeros 2) (zeros 2) (prefixing 0 5) 0 1 (inl r) (λ h. omega arith) (omega arith) (pfa-passes (shown g) 5) k (inl (inl refl, refl)) .0 refl in
     omega (arith, n)

@@ -1,5 +1,5 @@
 -- A script gives the machine's lists and says what the machine says, up to the operation where it stops. By induction on its operations.
-use mathlib.Core.Path.{_≡_, refl, sym, ap, _∙_}
+use mathlib.Core.Path.{_≡_, refl, sym, ap, _∙_, subst}
 use mathlib.Core.Logic.{_≢_}
 use mathlib.Core.Bool.{Bool, true, false, cond}
 use mathlib.Core.List.{List, [], _∷_, _++_}
@@ -9,10 +9,12 @@ use lib.ListN.{take}
 use Rattle.answers.specs.Answers.{DONE}
 use Rattle.lists.specs.Lst.{Lst}
 use Rattle.pool.specs.Pool.{Pool, Sound}
-use Rattle.pool.specs.Script.{Operation, Run, refusal, effect, goesOn, stops, performed, PFA, PFL, DECAP, ADV, BORROW, ERASE, INV, CINV, CONC}
+use Rattle.pool.specs.Script.{Operation, Run, refusal, effect, goesOn, stops, performed, among, PFA, PFL, DECAP, ADV, BORROW, ERASE, INV, CINV, CONC}
 use Rattle.pool.specs.ByCode.{either-way}
 use Rattle.pool.specs.ScriptLaws.{allowed, effect-sound}
 use borrow.Author.Tests.{eqb-true, eq-eqb}
+use Rattle.promises.specs.Grounds.{withB, UsesB}
+use Rattle.promises.specs.Tells.{tells-among}
 use Rattle.promises.specs.Machine.{Lists, assign, turn, turnAll, Says}
 use Rattle.promises.specs.OperationLaws.{HoldsIn, operation-does, assign-other}
 
@@ -50,21 +52,21 @@ one-answer p o = go (eqb (refusal p o) DONE) refl
     go true e = sym (eqb-true (refusal p o) DONE e)
     go false e = refl
 
--- an operation changes only the lists of its holders
-pub turn-other : (m : Lists) (o : Operation) (i : ℕ) → i ≢ o .a → i ≢ o .b → turn m o i ≡ m i
+-- an operation changes only the lists of the holders that it uses
+pub turn-other : (m : Lists) (o : Operation) (i : ℕ) → i ≢ o .a → (UsesB (o .code) → i ≢ o .b) → turn m o i ≡ m i
 unfolding turn
 turn-other m o i na nb =
-    by PFA _ _ (one-a _) (by PFL _ _ (two _ _) (by DECAP _ _ (two _ _) (by ADV _ _ (two _ _) (by BORROW _ _ (one-b _) (by ERASE _ _ (one-a _)
-    (by INV _ _ (one-a _) (by CINV _ _ (one-b _) (by CONC _ _ (two _ _) refl))))))))
+    by PFA _ _ (λ e. one-a _) (by PFL _ _ (two PFL refl _ _) (by DECAP _ _ (two DECAP refl _ _) (by ADV _ _ (two ADV refl _ _) (by BORROW _ _ (one-b BORROW refl m _)
+    (by ERASE _ _ (λ e. one-a _) (by INV _ _ (λ e. one-a _) (by CINV _ _ (one-b CINV refl m _) (by CONC _ _ (two CONC refl _ _) refl))))))))
   where
-    by : (k : ℕ) (f g : Lists) → f i ≡ m i → g i ≡ m i → cond (eqb (o .code) k) f g i ≡ m i
-    by k f g x y = either-way (λ (h : Lists). h i ≡ m i) (eqb (o .code) k) f g (λ e. x) (λ e. y)
+    by : (k : ℕ) (f g : Lists) → (eqb (o .code) k ≡ true → f i ≡ m i) → g i ≡ m i → cond (eqb (o .code) k) f g i ≡ m i
+    by k f g x y = either-way (λ (h : Lists). h i ≡ m i) (eqb (o .code) k) f g x (λ e. y)
 
     one-a : (l : Lst) → assign m (o .a) l i ≡ m i
     one-a l = assign-other m (o .a) l i na
 
-    one-b : (l : Lst) → assign m (o .b) l i ≡ m i
-    one-b l = assign-other m (o .b) l i nb
+    one-b : (k : ℕ) → among k withB ≡ true → (f : Lists) (l : Lst) → eqb (o .code) k ≡ true → assign f (o .b) l i ≡ f i
+    one-b k u f l e = assign-other f (o .b) l i (nb (subst UsesB (sym (eqb-true (o .code) k e)) (tells-among k withB .0 u)))
 
-    two : (l k : Lst) → assign (assign m (o .a) l) (o .b) k i ≡ m i
-    two l k = assign-other (assign m (o .a) l) (o .b) k i nb ∙ one-a l
+    two : (k : ℕ) → among k withB ≡ true → (l n : Lst) → eqb (o .code) k ≡ true → assign (assign m (o .a) l) (o .b) n i ≡ m i
+    two k u l n e = one-b k u (assign m (o .a) l) n e ∙ one-a l

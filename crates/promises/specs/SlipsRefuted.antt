@@ -12,8 +12,8 @@ use Rattle.pool.specs.Pool.{Pool, ListAt, Walk, Chain, Sound}
 use Rattle.pool.specs.Script.{DECAP, BORROW, INV, CONC, Operation}
 use Rattle.calls.specs.Entry.{shown}
 use Rattle.promises.specs.Engine.{Engine, Reached, made, ranOn}
-use Rattle.promises.specs.Grounds.{runRows}
-use Rattle.promises.specs.Tells.{first-none}
+use Rattle.promises.specs.Grounds.{runRows, withB}
+use Rattle.promises.specs.Tells.{first-none, tells-among}
 use Rattle.promises.specs.Machine.{Lists}
 use Rattle.promises.specs.Demand1.{RunRefusals}
 use Rattle.promises.specs.Demand2.{Holds, OthersStay}
@@ -41,8 +41,8 @@ have (suc (suc i)) = zero-at 62 i 0 refl
 pub first-count-only : OthersStay firstCountOnly → ⊥
 unfolding computed ListAt
 first-count-only d =
-    let o : Operation = record { code = INV; a = 0; b = 9; v = 0 } in
-    let w = d tailShared (zeros 4) (zeros 2) o lists have refl 1 (λ z. omega arith) (λ z. omega arith) in
+    let o : Operation = record { code = INV; a = 0; b = 1; v = 0 } in
+    let w = d tailShared (zeros 4) (zeros 2) o lists have refl 1 (λ z. omega arith) (λ u. absurd (tells-among INV withB .1 refl u)) in
     omega (arith, w .3)
 
 -- nothing is free where the chain is empty
@@ -70,8 +70,7 @@ pub lowers-behind : EraseFrees lowersBehind → ⊥
 unfolding computed Walk Chain
 lowers-behind d =
     let t = after lowersBehind shared in
-    let r : Reached lowersBehind t = ranOn (zeros 4) shared (zeros 6) (made (zeros 74) 2 refl) in
-    let only = d t (zeros 4) (zeros 2) 0 0 0 r refl 1 (omega arith, omega arith) .0 (none-free (shown t) refl 1, (1 ∷ [], (refl, (λ z. omega arith), refl), omega arith)) in
+    let only = d t (zeros 4) (zeros 2) 0 0 0 refl 1 (omega arith, omega arith) .0 (none-free (shown t) refl 1, (1 ∷ [], (refl, (λ z. omega arith), refl), omega arith)) in
     only .1 1 (λ z. omega arith) (1, (1, (omega arith, inl refl), refl))
 
 -- after DECAP one arrow ends at the tail as before, the holder's for the cell's

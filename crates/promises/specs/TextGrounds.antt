@@ -5,7 +5,7 @@ use mathlib.Core.Logic.{_≢_, _⊎_}
 use mathlib.Core.Bool.{cond}
 use mathlib.Core.List.{List, [], _∷_, _++_}
 use Prim.Native.Nat.{ℕ, _+_, _-_, _*_, _%_, _≤_, _<_}
-use lib.ListN.{length}
+use lib.ListN.{length, take}
 use Rattle.answers.specs.Answers.{TABLE-SIZE, WORK-SPACE, UNSOUND, HOLDER, OCCUPIED, NO-ROOM, TEXT-SIZE, END, NOT-A-LIST, ATOM, DEEP, OUTPUT}
 use Rattle.lists.specs.Lst.{Lst, extent}
 use Rattle.pool.specs.Pool.{holder, ListAt, frees}
@@ -90,6 +90,10 @@ Faulted xs n = (us : List ℕ) × (b : ℕ) × (later : List ℕ) × (xs ≡ us 
 
 abbrev pub RunsOut : List ℕ → Type 0
 RunsOut xs = Fine xs × (Complete xs → ⊥)
+
+-- m bytes of a text, where none of them is a fault, the list has ended and its record is full, and no sooner
+abbrev pub TakesRecords : List ℕ → ℕ → Type 0
+TakesRecords xs m = (m ≤ length xs) × Fine (take m xs) × Complete (take m xs)
 
 abbrev pub faultRows : List ℕ → List Row
 faultRows xs = row NOT-A-LIST (Faulted xs NOT-A-LIST ⊎ RunsOut xs) ∷ row ATOM (Faulted xs ATOM) ∷ row DEEP (Faulted xs DEEP) ∷ []

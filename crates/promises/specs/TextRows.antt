@@ -1,12 +1,13 @@
 -- The text check answers the earliest fault of the text form, or takes the records of one list. By induction on the characters.
 use mathlib.Core.Path.{_≡_, refl, sym, ap, _∙_, subst}
-use mathlib.Core.Logic.{_⊎_, inl, inr}
+use mathlib.Core.Logic.{_≢_, _⊎_, inl, inr}
 use mathlib.Core.Bool.{Bool, true, false, cond, not, _||_}
 use mathlib.Core.List.{List, [], _∷_, _++_, append-assoc, append-nil}
 use Prim.Native.Nat.{ℕ, _+_, _%_}
 use native.Mathlib.Omega.{arith}
 use lib.Dec.{eqb, leb, ltb}
-use lib.ListN.{length, getD, drop, length-append}
+use lib.ListN.{length, getD, take, drop, length-append}
+use lib.Seq.{take-append-seam}
 use borrow.Author.Tests.{leb-true, leb-false, lt-ltb, le-ltb, eqb-true, eqb-false}
 use Rattle.answers.specs.Answers.{DONE, TEXT-SIZE, END, NOT-A-LIST, ATOM, DEEP}
 use Rattle.text.specs.Limits.{recordBytes, textMost}
@@ -14,7 +15,7 @@ use Rattle.text.specs.Text.{Scan, Step, mark, fault, State, at, refused, taken,
 use Rattle.text.specs.TextLaws.{rests-refused, rests-taken}
 use Rattle.calls.specs.Read.{badText}
 use Rattle.promises.specs.Rows.{First, Answers}
-use Rattle.promises.specs.TextGrounds.{along, lastIn, FaultAt, NoFault, Complete, Fine, Faulted, RunsOut, faultRows, checkRows}
+use Rattle.promises.specs.TextGrounds.{along, lastIn, FaultAt, NoFault, Complete, Fine, Faulted, RunsOut, TakesRecords, faultRows, checkRows}
 use Rattle.promises.specs.Tells.{tells-eq, first}
 use Rattle.promises.specs.TestsTell.{tells-text}
 use Rattle.promises.specs.TextPlaces.{Placed, StepAt, step-at, over-ended, ended-over, placed-first}
@@ -64,7 +65,7 @@ fine-next us b f n k vs c ws e = go (places us vs b c [] ws e)
 data Walked (us xs : List ℕ) (st : State) : Type 0 where
   stands : (t : Scan) (k : ℕ) → st ≡ at t k → Fine (us ++ xs) → (Complete (us ++ xs) → ⊥) → Walked us xs st
   faulted : (k : ℕ) (vs : List ℕ) (b : ℕ) (later : List ℕ) → st ≡ refused k → xs ≡ vs ++ (b ∷ later) → Fine (us ++ vs) → (Complete (us ++ vs) → ⊥) → FaultAt (us ++ vs) b k → Walked us xs st
-  took : (m : ℕ) (vs later : List ℕ) → st ≡ taken m → xs ≡ vs ++ later → Fine (us ++ vs) → Complete (us ++ vs) → Walked us xs st
+  took : (m : ℕ) (vs later : List ℕ) → st ≡ taken m → m ≡ length (us ++ vs) → xs ≡ vs ++ later → Fine (us ++ vs) → Complete (us ++ vs) → Walked us xs st
 
 walked : (xs us : List ℕ) (s : Scan) (n : ℕ) → Placed us s → n ≡ length us → Fine us → (Complete us → ⊥) → Walked us xs (run (at s n) xs)
 walked [] us s n p e f c = stands s n refl (subst Fine (sym (append-nil us)) f) (λ h. c (subst Complete (append-nil us) h))
@@ -79,7 +80,7 @@ walked (b ∷ xs) us s n p e f c = go (stepOf s b) refl (step-at us s p b) (walk
     on : {st su : State} → su ≡ st → Walked (us ++ (b ∷ [])) xs st → Walked us (b ∷ xs) su
     on q (stands t k r g h) = stands t k (q ∙ r) (subst Fine (more xs) g) (λ w. h (subst Complete (sym (more xs)) w))
     on q (faulted k vs d later r t g h i) = faulted k (b ∷ vs) d later (q ∙ r) (both refl t) (subst Fine (more vs) g) (λ w. h (subst Complete (sym (more vs)) w)) (subst (λ (w : List ℕ). FaultAt w d k) (more vs) i)
-    on q (took m vs later r t g h) = took m (b ∷ vs) later (q ∙ r) (both refl t) (subst Fine (more vs) g) (subst Complete (more vs) h)
+    on q (took m vs later r d t g h) = took m (b ∷ vs) later (q ∙ r) (d ∙ ap length (more vs)) (both refl t) (subst Fine (more vs) g) (subst Complete (more vs) h)
 
     go : (u : Step) → stepOf s b ≡ u → StepAt us b u
         → ((t : Scan) (k : ℕ) → Placed (us ++ (b ∷ [])) t → k ≡ length (us ++ (b ∷ [])) → Fine (us ++ (b ∷ [])) → (Complete (us ++ (b ∷ [])) → ⊥) → Walked (us ++ (b ∷ [])) xs (run (at t k) xs))
@@ -96,7 +97,7 @@ walked (b ∷ xs) us s n p e f c = go (stepOf s b) refl (step-at us s p b) (walk
         rest : (x : Bool) → isOver (t .phase) ≡ x → (y : Bool) → eqb ((n + 1) % recordBytes) 0 ≡ y → Walked us (b ∷ xs) (run (settle (n + 1) (stepOf s b)) xs)
         rest true x true y =
             let (l, z) = over-ended (us ++ (b ∷ [])) t q x in
-            took (n + 1) (b ∷ []) xs (here (rw (x, y)) ∙ rests-taken (n + 1) xs) refl next (l, z, ap (λ (k : ℕ). k % recordBytes) (sym long) ∙ eqb-true ((n + 1) % recordBytes) 0 y)
+            took (n + 1) (b ∷ []) xs (here (rw (x, y)) ∙ rests-taken (n + 1) xs) long refl next (l, z, ap (λ (k : ℕ). k % recordBytes) (sym long) ∙ eqb-true ((n + 1) % recordBytes) 0 y)
         rest true x false y = on (here (rw (x, y))) (ih t (n + 1) q long next (λ h. eqb-false ((n + 1) % recordBytes) 0 y (ap (λ (k : ℕ). k % recordBytes) long ∙ h .2)))
         rest false x w y = on (here (rw x)) (ih t (n + 1) q long next (λ h. ended-over (us ++ (b ∷ [])) t q x (h .0) (h .1)))
 
@@ -146,14 +147,18 @@ whole-faulted xs n (vs, d ∷ ks, q, g, e) (us, b, ls, p, f, c, h) = go (places 
     go (before ws r) = no-fault us b n (g us b ws r .0) h
     go (behind ws r) = f vs d ws r .1 e
 
-pub scan-answers : (xs : List ℕ) → Answers (faultRows xs) (scanned xs .no)
-unfolding scanned along
-scan-answers xs = go (walked xs [] begin 0 placed-first refl fine-none (λ h. none (h .0)))
+walked-from : (xs : List ℕ) → Walked [] xs (run (at begin 0) xs)
+unfolding along
+walked-from xs = walked xs [] begin 0 placed-first refl fine-none (λ h. none (h .0))
   where
     none : (lastIn [] ≡ 41) ⊎ (lastIn [] ≡ 32) → ⊥
     none (inl e) = omega (arith, e)
     none (inr e) = omega (arith, e)
 
+pub scan-answers : (xs : List ℕ) → Answers (faultRows xs) (scanned xs .no)
+unfolding scanned
+scan-answers xs = go (walked-from xs)
+  where
     number : {st : State} → run (at begin 0) xs ≡ st → answer (run (at begin 0) xs) .no ≡ answer st .no
     number e = ap (λ (u : State). answer u .no) e
 
@@ -181,7 +186,7 @@ scan-answers xs = go (walked xs [] begin 0 placed-first refl fine-none (λ h. no
     go : Walked [] xs (run (at begin 0) xs) → Answers (faultRows xs) (answer (run (at begin 0) xs) .no)
     go (stands t k r f c) = inl (inr (f, c), number r)
     go (faulted k vs b later r p f c h) = by-number k (number r) (vs, b, later, p, f, c, h) (which vs b k h)
-    go (took m vs later r p f c) =
+    go (took m vs later r d p f c) =
         let w : Whole xs = (vs, later, p, f, c) in
         inr (no-row w, inr ((λ g. whole-faulted xs ATOM w g), inr ((λ g. whole-faulted xs DEEP w g), number r)))
 
@@ -201,3 +206,44 @@ pub check-answers : (xs : List ℕ) → Answers (checkRows xs) (verdict xs .no)
 check-answers xs = subst (λ (r : Answer). Answers (checkRows xs) (r .no)) (sym (verdict-is xs))
     (first (λ (r : Answer). r .no) (First (drop 1 (checkRows xs)) (λ m. m ≡ DONE)) (badText xs) (refusal TEXT-SIZE) _ (tells-text xs) refl (λ _.
     first (λ (r : Answer). r .no) (Answers (faultRows xs)) (eqb (length xs) 0) (refusal END) (scanned xs) (tells-eq (length xs) 0) refl (λ _. scan-answers xs)))
+
+-- a refused text has no bytes taken
+pub check-refused : (xs : List ℕ) → verdict xs .no ≢ DONE → verdict xs .taken ≡ 0
+unfolding scanned
+check-refused xs = subst (λ (r : Answer). r .no ≢ DONE → r .taken ≡ 0) (sym (verdict-is xs)) (sizes (badText xs) (eqb (length xs) 0) (run (at begin 0) xs))
+  where
+    ends : (st : State) → answer st .no ≢ DONE → answer st .taken ≡ 0
+    ends (at s n) d = refl
+    ends (refused k) d = refl
+    ends (taken n) d = absurd (d refl)
+
+    sizes : (b c : Bool) (st : State) → let r = cond b (refusal TEXT-SIZE) (cond c (refusal END) (answer st)) in r .no ≢ DONE → r .taken ≡ 0
+    sizes true c st d = refl
+    sizes false true st d = refl
+    sizes false false st d = ends st d
+
+-- an accepted text is taken up to the end of its list's last record
+pub check-takes : (xs : List ℕ) → verdict xs .no ≡ DONE → TakesRecords xs (verdict xs .taken)
+unfolding scanned
+check-takes xs = subst (λ (r : Answer). r .no ≡ DONE → TakesRecords xs (r .taken)) (sym (verdict-is xs)) (sizes (badText xs) (eqb (length xs) 0))
+  where
+    number : {k : ℕ} {st : State} → run (at begin 0) xs ≡ st → answer st .no ≡ k → answer (run (at begin 0) xs) .no ≡ DONE → k ≡ DONE
+    number e q z = sym q ∙ sym (ap (λ (u : State). answer u .no) e) ∙ z
+
+    never : (us : List ℕ) (b k : ℕ) → FaultAt us b k → k ≡ DONE → ⊥
+    never us b k (inl h) z = omega (arith, h .0)
+    never us b k (inr (inl h)) z = omega (arith, h .0)
+    never us b k (inr (inr h)) z = omega (arith, h .0)
+
+    ends : Walked [] xs (run (at begin 0) xs) → answer (run (at begin 0) xs) .no ≡ DONE → TakesRecords xs (answer (run (at begin 0) xs) .taken)
+    ends (stands t k r f c) z = absurd (omega (arith, number r refl z))
+    ends (faulted k vs b later r p f c h) z = absurd (never vs b k h (number r refl z))
+    ends (took m vs later r d p f c) z =
+        let e : answer (run (at begin 0) xs) .taken ≡ length vs = ap (λ (u : State). answer u .taken) r ∙ d in
+        let cut : take (answer (run (at begin 0) xs) .taken) xs ≡ vs = ap (λ (n : ℕ). take n xs) e ∙ ap (take (length vs)) p ∙ take-append-seam vs later in
+        (omega (arith, e, ap length p, length-append vs later), subst Fine (sym cut) f, subst Complete (sym cut) c)
+
+    sizes : (b c : Bool) → let r = cond b (refusal TEXT-SIZE) (cond c (refusal END) (scanned xs)) in r .no ≡ DONE → TakesRecords xs (r .taken)
+    sizes true c z = absurd (omega arith)
+    sizes false true z = absurd (omega arith)
+    sizes false false z = ends (walked-from xs) z

@@ -1,7 +1,8 @@
--- Engines that break a demand, each in one way: those that document 01 wants to see refused, and the slips that it warns of.
+-- Engines that break a demand, each in one way: those that document 01 wants to see refused, the slips that it warns of, and some whose lists are
+-- right and whose words are not.
 use mathlib.Core.Bool.{Bool, true, cond, not, _&&_}
 use mathlib.Core.List.{List, [], _∷_}
-use Prim.Native.Nat.{ℕ, zero, suc, _+_, _-_, _/_}
+use Prim.Native.Nat.{ℕ, zero, suc, _+_, _-_}
 use lib.Dec.{eqb, ltb}
 use lib.ListN.{length, getD, set, take}
 use Rattle.answers.specs.Answers.{DONE, TABLE-SIZE, WORK-SPACE, SCRIPT, RESULTS, UNSOUND, SAME, SHARED, NO-ROOM}
@@ -9,9 +10,11 @@ use Rattle.pool.specs.Tally.{occ}
 use Rattle.pool.specs.Pool.{Pool, countOf, nextOf, setCount, holder, frees}
 use Rattle.pool.specs.Held.{into}
 use Rattle.pool.specs.Erase.{Dropping, step, total}
-use Rattle.pool.specs.Operations.{decap}
+use Rattle.pool.specs.Operations.{decap, inv}
 use Rattle.pool.specs.Check.{check, chained}
-use Rattle.pool.specs.Script.{PFA, DECAP, ERASE, INV, CONC, Operation, Effect, Run, refusal, effect, tellsFirst, tellsNumber, stops, goesOn, performed}
+use Rattle.pool.specs.Script.{PFA, DECAP, BORROW, ERASE, INV, CINV, CONC, Operation, Effect, Run, refusal, effect, tellsFirst, tellsNumber, tellsNothing, stops, goesOn, performed}
+use Rattle.text.specs.Text.{verdict}
+use Rattle.setup.specs.SetUp.{setUp}
 use Rattle.calls.specs.Entry.{badTable, badWork, shown, used}
 use Rattle.calls.specs.Run.{Ran, operations, badScript, badResults, notRun, ranTo, ran}
 use Rattle.calls.specs.Read.{notRead}
@@ -20,7 +23,7 @@ use Rattle.promises.specs.Engine.{Engine, ours}
 
 -- ours with another script run
 abbrev running : (List ℕ → List ℕ → List ℕ → List ℕ → Ran) → Engine
-running f = record { setUp = ours .setUp; run = f; read = ours .read; write = ours .write; check = ours .check }
+running f = record { setUp = ours .setUp; run = f; read = ours .read; write = ours .write; check = ours .check; rest = ours .rest }
 
 -- refuses whatever it is asked
 abbrev pub alwaysRefuses : Engine
@@ -30,11 +33,8 @@ alwaysRefuses = record {
   read = λ ts ws h xs. notRead TABLE-SIZE ts ws;
   write = λ ts ws h out. notWritten TABLE-SIZE ws out;
   check = λ xs. record { no = 15; taken = 0 };
+  rest = λ xs. [];
 }
-
--- one answer for every script: done
-abbrev pub constantAnswer : Engine
-constantAnswer = running (λ ts ws ss rs. record { answer = DONE; count = length ss / 4; table = ts; work = ws; results = rs })
 
 -- has our answers and changes nothing
 abbrev pub doesNothing : Engine
@@ -58,6 +58,22 @@ neverLends = running (λ ts ws ss rs.
     cond (starts PFA ss && eqb (shown ts .free) 0) (notRun NO-ROOM ts (used ts ws) rs)
     (record { answer = r .answer; count = r .count; table = cond (starts ERASE ss) (set (r .table) 1 (shown ts .free)) (r .table); work = r .work; results = r .results }))
 
+-- a set-up that leaves a type in cell 1: a sound pool, all free, but not document 01's words
+abbrev pub setsUpDirty : Engine
+setsUpDirty = record { setUp = λ ts n. let g = setUp ts n in record { answer = g .answer; table = set (g .table) 66 7 }; run = ours .run; read = ours .read; write = ours .write; check = ours .check; rest = ours .rest }
+
+-- leaves other words in the work space
+abbrev pub spoilsWork : Engine
+spoilsWork = running (λ ts ws ss rs. let r = ran ts ws ss rs in record { answer = r .answer; count = r .count; table = r .table; work = []; results = r .results })
+
+-- a text check with a number beside its refusal
+abbrev pub countsRefused : Engine
+countsRefused = record { setUp = ours .setUp; run = ours .run; read = ours .read; write = ours .write; check = λ xs. record { no = verdict xs .no; taken = 99 }; rest = ours .rest }
+
+-- hands nothing back
+abbrev pub losesRest : Engine
+losesRest = record { setUp = ours .setUp; run = ours .run; read = ours .read; write = ours .write; check = ours .check; rest = λ xs. [] }
+
 -- ours with another test for soundness and other rules for operations
 
 unfoldable pub performedBy : (Pool → Operation → ℕ) → (Pool → Operation → Effect) → Pool → List Operation → Run
@@ -75,6 +91,20 @@ ranBy sound perform ts ws ss rs =
 
 abbrev ruled : (Pool → Operation → ℕ) → (Pool → Operation → Effect) → Engine
 ruled f g = running (ranBy check (performedBy f g))
+
+-- does its work, and has one answer for every operation: nothing to say
+abbrev pub constantAnswer : Engine
+constantAnswer = ruled refusal (λ p o. tellsNothing (effect p o .pool))
+
+-- BORROW that copies where there is room, by CINV into b and INV of that
+abbrev inverts : Operation → Operation
+inverts o = record { code = CINV; a = o .a; b = o .b; v = 0 }
+
+abbrev copies : Pool → Operation → Effect
+copies p o = cond (eqb (o .code) BORROW && eqb (refusal p (inverts o)) DONE) (tellsNothing (inv (effect p (inverts o) .pool) (o .b))) (effect p o)
+
+abbrev pub copying : Engine
+copying = ruled refusal copies
 
 -- INV tested by the first count only
 abbrev pub firstCountOnly : Engine

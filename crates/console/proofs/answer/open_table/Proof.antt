@@ -1,0 +1,68 @@
+-- `console::answer::open_table` meets its contract.
+use Prim.Native.Nat.{_-_}
+use native.Mathlib.Omega.{arith}
+use mathlib.Core.Path.{sym, _∙_, _≡_}
+use borrow.Author.Tests.{not-true, not-false}
+use lib.ListN.{length, take}
+use lib.Seq.{length-take-le}
+use borrow.Author.Needs.{needs}
+use Rattle.table.specs.Limits.{tableWords}
+use Rattle.table.specs.SizesLaws.{fits-told}
+use Rattle.console.specs.SessionLaws.{opens, keeps-old}
+use Rattle.console.proofs.answer.open_table.Statement.{statement}
+use Rattle.console.proofs.answer.open_table.Tie as tie
+
+add-words : tie.Need-add-words
+add-words c = search needs
+
+mul-words : tie.Need-mul-words
+mul-words c = search needs
+
+add-words-2 : tie.Need-add-words-2
+add-words-2 c = search needs
+
+fits-requires : tie.Need-fits-requires
+fits-requires c κs = search needs
+
+returns : tie.Need-returns
+returns c = keeps-old (c .before .before .before .args .table .now) (c .before .before .before .args .used) (c .before .before .before .args .n) (sym (c .before .fits2 .ensures) ∙ not-true _ (c .if1 .taken)) (c .before .before .before .pre .1)
+
+sub-set-up : tie.Need-sub-set-up
+sub-set-up c = search needs
+
+part-set-up-start : tie.Need-part-set-up-start
+part-set-up-start c = search needs
+
+part-set-up-end : tie.Need-part-set-up-end
+part-set-up-end c = let f = fits-told (c .before .before .before .args .n) (tableWords (c .before .before .before .args .n)) (sym (c .before .fits2 .ensures) ∙ not-false _ (c .if1 .left)) in omega (arith, f .few, c .before .before .before .pre .0)
+
+set-up-requires : tie.Need-set-up-requires
+set-up-requires c κs = search needs
+
+same-length : tie.Need-same-length
+same-length c = search needs
+
+returns-2 : tie.Need-returns-2
+returns-2 c =
+    let a = c .before .before .before .before .before .before .before .args in
+    let e = sym (c .before .before .before .before .before .fits2 .ensures) ∙ not-false _ (c .before .before .before .before .if1 .left) in
+    let f = fits-told (a .n) (tableWords (a .n)) e in
+    let z : tableWords (a .n) - 0 ≡ tableWords (a .n) = omega arith in
+    let k : length (take (tableWords (a .n) - 0) (a .table .now)) ≡ tableWords (a .n) = length-take-le (tableWords (a .n) - 0) (a .table .now) (omega (arith, f .few, c .before .before .before .before .before .before .before .pre .0)) ∙ z in
+    opens (take (a .used) (a .table .now)) (take (tableWords (a .n) - 0) (a .table .now)) (c .before .before .set-up .last .0) _ (a .n) e k (c .before .before .set-up .kept .0 ∙ k) (c .before .before .set-up .ensures)
+
+pub open-table-spec : {M : Type 1} → statement M
+open-table-spec =
+    tie.close
+    (tie.spec
+    add-words
+    mul-words
+    add-words-2
+    fits-requires
+    returns
+    sub-set-up
+    part-set-up-start
+    part-set-up-end
+    set-up-requires
+    same-length
+    returns-2)

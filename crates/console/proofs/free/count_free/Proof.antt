@@ -1,0 +1,59 @@
+-- `console::free::count_free` meets its contract.
+use borrow.Author.Needs.{needs}
+use mathlib.Core.Path.{_≡_, refl, ap, _∙_}
+use native.Mathlib.Omega.{arith}
+use Prim.Native.Nat.{ℕ, _-_, _≤_}
+use Rattle.pool.specs.Tally.{same}
+use Rattle.table.specs.View.{view}
+use Rattle.console.specs.FreeLaws.{Counts, counts-none, counts-one, counts-all}
+use Rattle.console.proofs.free.count_free.Statement.{statement}
+use Rattle.console.proofs.free.count_free.Tie as tie
+
+abbrev Inv-loop : tie.InvT-loop
+Inv-loop s t n free₀ c₀ free c = (n ≡ s .cells) × Counts (view s t .cells) c free × (c ≤ n)
+
+abbrev μ-loop : tie.MeasureT-loop
+μ-loop s t n free₀ c₀ free c = n - c
+
+loop-holds : tie.Need-loop-holds Inv-loop μ-loop
+loop-holds c = (refl, counts-none (view (c .before .args .s) (c .before .args .t .now) .cells), omega arith)
+
+add-count-of : tie.Need-add-count-of Inv-loop μ-loop
+add-count-of c = search needs
+
+count-of-requires : tie.Need-count-of-requires Inv-loop μ-loop
+count-of-requires c κs = (c .before .before .before .pre, record { low = omega arith; high = omega arith })
+
+one-if-free-requires : tie.Need-one-if-free-requires Inv-loop μ-loop
+one-if-free-requires c κs = search needs
+
+add-free : tie.Need-add-free Inv-loop μ-loop
+add-free c = omega (arith, c .before .before .before .loop .inv .1 .few, c .one-if-free .ensures .1, c .before .before .before .before .before .pre .few)
+
+add-c : tie.Need-add-c Inv-loop μ-loop
+add-c c = search needs
+
+loop-less : tie.Need-loop-less Inv-loop μ-loop
+loop-less c = search needs
+
+loop-again : tie.Need-loop-again Inv-loop μ-loop
+loop-again c = (c .before .before .before .loop .inv .0, counts-one (view (c .before .before .before .before .before .args .s) (c .before .before .before .before .before .args .t .now) .cells) (c .before .before .before .loop .c) (c .before .before .before .loop .free) (c .one-if-free .result) (c .before .before .before .loop .inv .1) (omega (arith, c .before .before .before .before .before .pre .measured)) (c .one-if-free .ensures .0 ∙ ap (λ (k : ℕ). same k 0) (c .before .count-of .ensures .0)) (c .one-if-free .ensures .1), omega arith)
+
+returns : tie.Need-returns Inv-loop μ-loop
+returns c = counts-all (view (c .before .before .before .args .s) (c .before .before .before .args .t .now) .cells) (c .before .loop .c) (c .before .loop .free) (c .before .loop .inv .1) (omega (arith, c .before .before .before .pre .measured))
+
+pub count-free-spec : {M : Type 1} → statement M
+count-free-spec =
+    tie.close
+    (tie.spec
+    Inv-loop
+    μ-loop
+    loop-holds
+    add-count-of
+    count-of-requires
+    one-if-free-requires
+    add-free
+    add-c
+    loop-less
+    loop-again
+    returns)

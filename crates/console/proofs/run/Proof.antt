@@ -1,0 +1,101 @@
+-- `console::run` meets its contract.
+use borrow.Author.Needs.{needs}
+use mathlib.Core.Path.{_≡_, refl, sym, subst, _∙_}
+use lib.ListN.{length}
+use Rattle.console.specs.declared.State.{State}
+use Rattle.console.specs.Standing.{Standing}
+use Rattle.console.proofs.run.Statement.{statement}
+use Rattle.console.proofs.run.Tie as tie
+
+abbrev Inv-loop : tie.InvT-loop
+Inv-loop fd chunk₀ line₀ table₀ work₀ out₀ texts₀ s₀ turns₀ chunk line table work out texts s turns = Standing s chunk line table work out texts × (length chunk ≡ length chunk₀) × (length line ≡ length line₀) × (length table ≡ length table₀) × (length work ≡ length work₀) × (length out ≡ length out₀) × (length texts ≡ length texts₀)
+
+abbrev μ-loop : tie.MeasureT-loop
+μ-loop fd chunk₀ line₀ table₀ work₀ out₀ texts₀ s₀ turns₀ chunk line table work out texts s turns = turns
+
+new-requires : tie.Need-new-requires Inv-loop μ-loop
+new-requires c κs = search needs
+
+loop-holds : tie.Need-loop-holds Inv-loop μ-loop
+loop-holds c = (subst (λ (u : State). Standing u (c .before .before .before .before .before .before .before .args .chunk .now) (c .before .before .before .before .before .before .before .args .line .now) (c .before .before .before .before .before .before .before .args .table .now) (c .before .before .before .before .before .before .before .args .work .now) (c .before .before .before .before .before .before .before .args .out .now) (c .before .before .before .before .before .before .before .args .texts .now)) (sym (c .new .ensures)) (c .before .before .before .before .before .before .before .pre), refl, refl, refl, refl, refl, refl)
+
+turn-requires : tie.Need-turn-requires Inv-loop μ-loop
+turn-requires c κs = c .before .before .before .before .before .before .before .before .before .loop .inv .0
+
+sub-turns : tie.Need-sub-turns Inv-loop μ-loop
+sub-turns c = search needs
+
+loop-less : tie.Need-loop-less Inv-loop μ-loop
+loop-less c = search needs
+
+loop-again : tie.Need-loop-again Inv-loop μ-loop
+loop-again c = let v = c .before .before .before .before .before .before .before .before .before .before .before .before .before .before .before .before .before .before .before .before .before .before .loop .inv in let k = c .before .before .before .before .before .before .before .before .before .before .before .before .turn .kept in (c .before .before .before .before .before .before .before .before .before .before .before .before .turn .ensures, k .1 .0 ∙ v .1, k .1 .1 .0 ∙ v .2, k .1 .1 .1 .0 ∙ v .3, k .1 .1 .1 .1 .0 ∙ v .4, k .1 .1 .1 .1 .1 .0 ∙ v .5, k .1 .1 .1 .1 .1 .1 .0 ∙ v .6)
+
+same-length : tie.Need-same-length Inv-loop μ-loop
+same-length c = search needs
+
+same-length-2 : tie.Need-same-length-2 Inv-loop μ-loop
+same-length-2 c = search needs
+
+same-length-3 : tie.Need-same-length-3 Inv-loop μ-loop
+same-length-3 c = search needs
+
+same-length-4 : tie.Need-same-length-4 Inv-loop μ-loop
+same-length-4 c = search needs
+
+same-length-5 : tie.Need-same-length-5 Inv-loop μ-loop
+same-length-5 c = search needs
+
+same-length-6 : tie.Need-same-length-6 Inv-loop μ-loop
+same-length-6 c = search needs
+
+returns : tie.Need-returns Inv-loop μ-loop
+returns c = search needs
+
+same-length-7 : tie.Need-same-length-7 Inv-loop μ-loop
+same-length-7 c = search needs
+
+same-length-8 : tie.Need-same-length-8 Inv-loop μ-loop
+same-length-8 c = search needs
+
+same-length-9 : tie.Need-same-length-9 Inv-loop μ-loop
+same-length-9 c = search needs
+
+same-length-10 : tie.Need-same-length-10 Inv-loop μ-loop
+same-length-10 c = search needs
+
+same-length-11 : tie.Need-same-length-11 Inv-loop μ-loop
+same-length-11 c = search needs
+
+same-length-12 : tie.Need-same-length-12 Inv-loop μ-loop
+same-length-12 c = search needs
+
+returns-2 : tie.Need-returns-2 Inv-loop μ-loop
+returns-2 c = search needs
+
+pub run-spec : {M : Type 1} → statement M
+run-spec =
+    tie.close
+    (tie.spec
+    Inv-loop
+    μ-loop
+    new-requires
+    loop-holds
+    turn-requires
+    sub-turns
+    loop-less
+    loop-again
+    same-length
+    same-length-2
+    same-length-3
+    same-length-4
+    same-length-5
+    same-length-6
+    returns
+    same-length-7
+    same-length-8
+    same-length-9
+    same-length-10
+    same-length-11
+    same-length-12
+    returns-2)

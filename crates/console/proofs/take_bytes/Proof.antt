@@ -1,0 +1,30 @@
+-- `console::take_bytes` meets its contract.
+use native.Mathlib.Omega.{arith}
+use Prim.Native.Nat.{_-_}
+use borrow.Author.Needs.{needs}
+use Rattle.console.specs.StandingLaws.{feeds}
+use Rattle.console.proofs.take_bytes.Statement.{statement}
+use Rattle.console.proofs.take_bytes.Tie as tie
+
+sub-gather : tie.Need-sub-gather
+sub-gather c = search needs
+
+part-gather-start : tie.Need-part-gather-start
+part-gather-start c = search needs
+
+part-gather-end : tie.Need-part-gather-end
+part-gather-end c = search needs
+
+gather-requires : tie.Need-gather-requires
+gather-requires c κs = search needs
+
+same-length : tie.Need-same-length
+same-length c = search needs
+
+returns : tie.Need-returns
+returns c = feeds (c .before .before .before .before .before .before .before .args .s) (c .before .before .before .before .before .before .before .args .chunk .now) (c .before .before .before .before .before .before .before .args .line .now) (c .before .before .gather .last .1 .0) (c .before .before .before .before .before .before .before .args .s .got - 0) (c .before .before .gather .result) (omega arith) (c .before .before .gather .ensures)
+
+pub take-bytes-spec : {M : Type 1} → statement M
+take-bytes-spec =
+    tie.close
+    (tie.spec sub-gather part-gather-start part-gather-end gather-requires same-length returns)

@@ -1,0 +1,74 @@
+-- `console::turn` meets its contract.
+use borrow.Author.Needs.{needs}
+use Rattle.console.specs.StandingLaws.{stands-line, stands-bytes, stands-read, stands-end}
+use Rattle.console.proofs.turn.Statement.{statement}
+use Rattle.console.proofs.turn.Tie as tie
+
+answer-line-requires : tie.Need-answer-line-requires
+answer-line-requires c κs = search needs
+
+same-length : tie.Need-same-length
+same-length c = search needs
+
+same-length-2 : tie.Need-same-length-2
+same-length-2 c = search needs
+
+same-length-3 : tie.Need-same-length-3
+same-length-3 c = search needs
+
+same-length-4 : tie.Need-same-length-4
+same-length-4 c = search needs
+
+same-length-5 : tie.Need-same-length-5
+same-length-5 c = search needs
+
+returns : tie.Need-returns
+returns c = stands-line (c .before .before .before .before .before .before .before .before .before .before .before .before .before .before .before .before .before .before .before .before .before .args .s) (c .before .before .before .before .before .before .before .before .answer-line .result) (c .before .before .before .before .before .before .before .before .before .before .before .before .before .before .before .before .before .before .before .before .before .args .chunk .now) (c .before .before .before .before .before .before .before .before .before .before .before .before .before .before .before .before .before .before .before .before .before .args .line .now) (c .before .before .before .before .before .before .before .before .before .before .before .before .before .before .before .before .before .before .before .before .before .args .table .now) (c .before .before .before .before .before .before .before .before .before .before .before .before .before .before .before .before .before .before .before .before .before .args .work .now) (c .before .before .before .before .before .before .before .before .before .before .before .before .before .before .before .before .before .before .before .before .before .args .out .now) (c .before .before .before .before .before .before .before .before .before .before .before .before .before .before .before .before .before .before .before .before .before .args .texts .now) (c .before .before .before .before .before .before .before .before .before .before .before .before .before .before .before .before .before .before .before .before .before .pre) (c .before .before .before .before .before .before .before .before .answer-line .last .1 .0) (c .before .before .before .before .before .before .before .before .answer-line .last .1 .1 .0) (c .before .before .before .before .before .before .before .before .answer-line .last .1 .1 .1 .0) (c .before .before .before .before .before .before .before .before .answer-line .last .1 .1 .1 .1 .0) (c .before .before .before .before .before .before .before .before .answer-line .kept .1 .0) (c .before .before .before .before .before .before .before .before .answer-line .kept .1 .1 .0) (c .before .before .before .before .before .before .before .before .answer-line .kept .1 .1 .1 .0) (c .before .before .before .before .before .before .before .before .answer-line .kept .1 .1 .1 .1 .0) (c .before .before .before .before .before .before .before .before .answer-line .ensures)
+
+take-bytes-requires : tie.Need-take-bytes-requires
+take-bytes-requires c κs = search needs
+
+same-length-6 : tie.Need-same-length-6
+same-length-6 c = search needs
+
+same-length-7 : tie.Need-same-length-7
+same-length-7 c = search needs
+
+returns-2 : tie.Need-returns-2
+returns-2 c = stands-bytes (c .before .before .before .before .before .before .before .before .before .before .before .before .before .before .args .s) (c .before .before .take-bytes .result) (c .before .before .before .before .before .before .before .before .before .before .before .before .before .before .args .chunk .now) (c .before .before .before .before .before .before .before .before .before .before .before .before .before .before .args .line .now) (c .before .before .before .before .before .before .before .before .before .before .before .before .before .before .args .table .now) (c .before .before .before .before .before .before .before .before .before .before .before .before .before .before .args .work .now) (c .before .before .before .before .before .before .before .before .before .before .before .before .before .before .args .out .now) (c .before .before .before .before .before .before .before .before .before .before .before .before .before .before .args .texts .now) (c .before .before .before .before .before .before .before .before .before .before .before .before .before .before .pre) (c .before .before .take-bytes .last .1 .0) (c .before .before .take-bytes .kept .1 .0) (c .before .before .take-bytes .ensures)
+
+finish-requires : tie.Need-finish-requires
+finish-requires c κs = search needs
+
+returns-3 : tie.Need-returns-3
+returns-3 c = stands-end (c .before .before .before .before .before .before .before .before .before .before .before .args .s) (c .finish .result) (c .before .before .before .before .before .before .before .before .before .before .before .args .chunk .now) (c .before .before .before .before .before .before .before .before .before .before .before .args .line .now) (c .before .before .before .before .before .before .before .before .before .before .before .args .table .now) (c .before .before .before .before .before .before .before .before .before .before .before .args .work .now) (c .before .before .before .before .before .before .before .before .before .before .before .args .out .now) (c .before .before .before .before .before .before .before .before .before .before .before .args .texts .now) (c .before .before .before .before .before .before .before .before .before .before .before .pre) (c .finish .ensures)
+
+read-bytes-requires : tie.Need-read-bytes-requires
+read-bytes-requires c κs = search needs
+
+same-length-8 : tie.Need-same-length-8
+same-length-8 c = search needs
+
+returns-4 : tie.Need-returns-4
+returns-4 c = stands-read (c .before .before .before .before .before .before .before .before .before .before .before .before .before .before .args .s) (c .before .before .read-bytes .result) (c .before .before .before .before .before .before .before .before .before .before .before .before .before .before .args .chunk .now) (c .before .before .before .before .before .before .before .before .before .before .before .before .before .before .args .line .now) (c .before .before .before .before .before .before .before .before .before .before .before .before .before .before .args .table .now) (c .before .before .before .before .before .before .before .before .before .before .before .before .before .before .args .work .now) (c .before .before .before .before .before .before .before .before .before .before .before .before .before .before .args .out .now) (c .before .before .before .before .before .before .before .before .before .before .before .before .before .before .args .texts .now) (c .before .before .before .before .before .before .before .before .before .before .before .before .before .before .pre) (c .before .before .read-bytes .last .1 .0) (c .before .before .read-bytes .kept .1 .0) (c .before .before .read-bytes .ensures)
+
+pub turn-spec : {M : Type 1} → statement M
+turn-spec =
+    tie.close
+    (tie.spec
+    answer-line-requires
+    same-length
+    same-length-2
+    same-length-3
+    same-length-4
+    same-length-5
+    returns
+    take-bytes-requires
+    same-length-6
+    same-length-7
+    returns-2
+    finish-requires
+    returns-3
+    read-bytes-requires
+    same-length-8
+    returns-4)

@@ -1,0 +1,9 @@
+pub mod Session
+pub mod Kept
+pub mod Standing
+pub mod Trim
+pub mod FreeLaws
+pub mod SessionLaws
+pub mod ReadLaws
+pub mod WriteLaws
+pub mod StandingLaws

@@ -1,0 +1,42 @@
+// The free cells of a table, counted.
+ghost use mathlib.Core.Path.{_≡_};
+ghost use Prim.Native.Nat.{_≤_};
+ghost use Rattle.pool.specs.Pool.{frees};
+ghost use Rattle.pool.specs.Tally.{same};
+ghost use Rattle.table.specs.View.{view, Table};
+ghost use Rattle.console.specs.Session.{freeCells};
+use table::Shape;
+
+fn one_if_free(count: usize) -> u32
+    ensures { λ r. ⌜ (r ≡ same count 0) × (r ≤ 1) ⌝ }
+{
+    if count == 0 {
+        return 1;
+    }
+    0
+}
+
+fn count_free(s: Shape, t: &[u32]) -> u32
+    requires { ⌜ Table s (now t) ⌝ }
+    ensures { λ r. ⌜ r ≡ frees (view s (now (t .entry)) .cells) ⌝ }
+{
+    let n = s.cells;
+    let mut free = 0;
+    let mut c = 0;
+    while c < n {
+        free += one_if_free(table::count_of(s, t, c + 1));
+        c += 1;
+    }
+    free
+}
+
+// Words that are no table have none.
+pub fn free_cells(t: &[u32]) -> u32
+    ensures { λ r. ⌜ r ≡ freeCells (now (t .entry)) ⌝ }
+{
+    let n = table::cells_of(t);
+    if n == 0 {
+        return 0;
+    }
+    count_free(Shape { cells: n }, t)
+}

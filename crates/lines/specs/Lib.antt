@@ -1,0 +1,11 @@
+pub mod Numbers
+pub mod Commands
+pub mod Printed
+pub mod Splitting
+pub mod Meaning
+pub mod NumberLaws
+pub mod CommandLaws
+pub mod PrintedLaws
+pub mod SplittingLaws
+pub mod GatherLaws
+pub mod RecordLaws

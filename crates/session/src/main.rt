@@ -1,0 +1,4 @@
+// The session on standard input.
+fn main() {
+    console::session(0);
+}
