@@ -20,7 +20,8 @@ use Rattle.promises.specs.Tells.{first-none}
 use Rattle.promises.specs.TestsTell.{tells-table, tells-unsound}
 use Rattle.promises.specs.Tables.{good, fails}
 use Rattle.promises.specs.RunLaws.{passed-good, passes, runs}
-use Rattle.promises.specs.OneOutcome.{RanAs, one-run, WroteAs, one-write, one-answer}
+use Rattle.promises.specs.OneOutcome.{one-answer}
+use Rattle.promises.specs.SameParts.{RanAs, by-parts-run, WroteAs, by-parts-write}
 use Rattle.promises.specs.SameRun.{stops-as}
 use Rattle.promises.specs.SameRows.{decide, same-first, same-work}
 use Rattle.promises.specs.SameSetUp.{same-set-up-answer, same-set-up-table}
@@ -28,7 +29,7 @@ use Rattle.promises.specs.SameText.{same-check, same-rest, same-read}
 
 module _ (E : Engine) (K : Keeps E) where
   same-run : (ts ws ss rs : List ℕ) → E .run ts ws ss rs ≡ ran ts ws ss rs
-  same-run ts ws ss rs = one-run ts ws ss rs (go (decide 5 rows (λ n. Unit {0}) (ran ts ws ss rs .answer) (ours-keeps .first .run-refusals ts ws ss rs))) (record { answer = refl; count = refl; table = refl; work = refl; results = refl })
+  same-run ts ws ss rs = by-parts-run ts ws ss rs (go (decide 5 rows (λ n. Unit {0}) (ran ts ws ss rs .answer) (ours-keeps .first .run-refusals ts ws ss rs))) (record { answer = refl; count = refl; table = refl; work = refl; results = refl })
     where
       rows : List Row
       rows = runRows ts ws ss rs
@@ -61,7 +62,7 @@ module _ (E : Engine) (K : Keeps E) where
           }
 
   same-write : (ts ws : List ℕ) (h : ℕ) (out : List ℕ) → E .write ts ws h out ≡ writeOut ts ws h out
-  same-write ts ws h out = one-write ts ws h out (go (ℕ-discrete (writeOut ts ws h out .answer) DONE)) (record { answer = refl; count = refl; work = refl; output = refl })
+  same-write ts ws h out = by-parts-write ts ws h out (go (ℕ-discrete (writeOut ts ws h out .answer) DONE)) (record { answer = refl; count = refl; work = refl; output = refl })
     where
       rows : List Row
       rows = writeRows ts ws h out

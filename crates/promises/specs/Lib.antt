@@ -40,6 +40,7 @@ pub mod Refuted
 pub mod SlipsRefuted
 pub mod LooseRefuted
 pub mod Keeps
+pub mod SameParts
 pub mod OneOutcome
 pub mod SameRun
 pub mod SameRows

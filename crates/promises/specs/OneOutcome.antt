@@ -1,13 +1,16 @@
 -- An input has one outcome: a contract states that the answer, the number and every lent word are those of the definition,
 -- so two outcomes that meet it are equal. And the rows of demand 1 fix the answer by themselves, whatever the engine.
-use mathlib.Core.Path.{_≡_, sym, _∙_}
+use mathlib.Core.Path.{_≡_, sym, ap, _∙_}
 use mathlib.Core.Logic.{inl, inr}
 use mathlib.Core.List.{List, [], _∷_}
 use Prim.Native.Nat.{ℕ}
-use Rattle.text.specs.Text.{Answer, verdict}
+use Rattle.answers.specs.Answers.{outcome}
+use Rattle.answers.specs.declared.Outcome.{Outcome}
+use Rattle.text.specs.Text.{verdict}
 use Rattle.setup.specs.SetUp.{SetUp, setUp}
-use Rattle.calls.specs.Run.{Ran, ran}
-use Rattle.calls.specs.Read.{Read, readIn}
+use Rattle.calls.specs.Run.{ran}
+use Rattle.calls.specs.Read.{readIn}
+use Rattle.calls.specs.Contracts.{Runs, Reads, wrote}
 use Rattle.calls.specs.Write.{Write, writeOut}
 use Rattle.promises.specs.Engine.{Engine}
 use Rattle.promises.specs.Rows.{Row, Answers}
@@ -21,59 +24,25 @@ pub one-set-up : (ts : List ℕ) (n : ℕ) {r s : ℕ} {us vs : List ℕ} → Se
 one-set-up ts n a b = (a .answer ∙ sym (b .answer), a .table ∙ sym (b .table))
 
 -- a script run
-pub record RanAs (d x : Ran) : Type 0 where
-  pub answer : x .answer ≡ d .answer
-  pub count : x .count ≡ d .count
-  pub table : x .table ≡ d .table
-  pub work : x .work ≡ d .work
-  pub results : x .results ≡ d .results
+pub one-run : (ts ws ss rs : List ℕ) {r s : Outcome} {us vs qs us′ vs′ qs′ : List ℕ} → Runs r us vs qs (ran ts ws ss rs) → Runs s us′ vs′ qs′ (ran ts ws ss rs)
+    → (r ≡ s) × (us ≡ us′) × (vs ≡ vs′) × (qs ≡ qs′)
+one-run ts ws ss rs a b = (a .outcome ∙ sym (b .outcome), a .table ∙ sym (b .table), a .work ∙ sym (b .work), a .results ∙ sym (b .results))
 
-pub one-run : (ts ws ss rs : List ℕ) {x y : Ran} → RanAs (ran ts ws ss rs) x → RanAs (ran ts ws ss rs) y → x ≡ y
-one-run ts ws ss rs a b = λ i. record {
-  answer = (a .answer ∙ sym (b .answer)) i;
-  count = (a .count ∙ sym (b .count)) i;
-  table = (a .table ∙ sym (b .table)) i;
-  work = (a .work ∙ sym (b .work)) i;
-  results = (a .results ∙ sym (b .results)) i;
-}
+-- reading
+pub one-read : (ts ws : List ℕ) (h : ℕ) (xs : List ℕ) {r s : Outcome} {us vs us′ vs′ : List ℕ} → Reads (readIn ts ws h xs) r us vs → Reads (readIn ts ws h xs) s us′ vs′
+    → (r ≡ s) × (us ≡ us′) × (vs ≡ vs′)
+one-read ts ws h xs a b = (a .answer ∙ sym (b .answer), a .table ∙ sym (b .table), a .work ∙ sym (b .work))
 
--- reading; the text is only read
-pub record ReadAs (d x : Read) : Type 0 where
-  pub answer : x .answer ≡ d .answer
-  pub count : x .count ≡ d .count
-  pub table : x .table ≡ d .table
-  pub work : x .work ≡ d .work
+-- writing
+pub one-write : (ts ws : List ℕ) (h : ℕ) (out : List ℕ) (r s : Outcome) (vs os vs′ os′ : List ℕ) → wrote r vs os ≡ writeOut ts ws h out → wrote s vs′ os′ ≡ writeOut ts ws h out
+    → (r ≡ s) × (vs ≡ vs′) × (os ≡ os′)
+one-write ts ws h out r s vs os vs′ os′ a b =
+    let e : wrote r vs os ≡ wrote s vs′ os′ = a ∙ sym b in
+    (ap (λ (w : Write). outcome (w .answer) (w .count)) e, ap (λ (w : Write). w .work) e, ap (λ (w : Write). w .output) e)
 
-pub one-read : (ts ws : List ℕ) (h : ℕ) (xs : List ℕ) {x y : Read} → ReadAs (readIn ts ws h xs) x → ReadAs (readIn ts ws h xs) y → x ≡ y
-one-read ts ws h xs a b = λ i. record {
-  answer = (a .answer ∙ sym (b .answer)) i;
-  count = (a .count ∙ sym (b .count)) i;
-  table = (a .table ∙ sym (b .table)) i;
-  work = (a .work ∙ sym (b .work)) i;
-}
-
--- writing; the table is only read
-pub record WroteAs (d x : Write) : Type 0 where
-  pub answer : x .answer ≡ d .answer
-  pub count : x .count ≡ d .count
-  pub work : x .work ≡ d .work
-  pub output : x .output ≡ d .output
-
-pub one-write : (ts ws : List ℕ) (h : ℕ) (out : List ℕ) {x y : Write} → WroteAs (writeOut ts ws h out) x → WroteAs (writeOut ts ws h out) y → x ≡ y
-one-write ts ws h out a b = λ i. record {
-  answer = (a .answer ∙ sym (b .answer)) i;
-  count = (a .count ∙ sym (b .count)) i;
-  work = (a .work ∙ sym (b .work)) i;
-  output = (a .output ∙ sym (b .output)) i;
-}
-
--- the text check; the text is only read
-pub record CheckedAs (d x : Answer) : Type 0 where
-  pub no : x .no ≡ d .no
-  pub taken : x .taken ≡ d .taken
-
-pub one-check : (xs : List ℕ) {x y : Answer} → CheckedAs (verdict xs) x → CheckedAs (verdict xs) y → x ≡ y
-one-check xs a b = λ i. record { no = (a .no ∙ sym (b .no)) i; taken = (a .taken ∙ sym (b .taken)) i }
+-- the text check
+pub one-check : (xs : List ℕ) {r s : Outcome} → r ≡ outcome (verdict xs .no) (verdict xs .taken) → s ≡ outcome (verdict xs .no) (verdict xs .taken) → r ≡ s
+one-check xs a b = a ∙ sym b
 
 -- one answer for one input, by the rows
 

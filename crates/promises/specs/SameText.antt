@@ -12,7 +12,8 @@ use Rattle.promises.specs.Engine.{Engine}
 use Rattle.promises.specs.Rows.{Row}
 use Rattle.promises.specs.TextGrounds.{TakesRecords, readRows, checkRows}
 use Rattle.promises.specs.Keeps.{Keeps, ours-keeps}
-use Rattle.promises.specs.OneOutcome.{one-check, ReadAs, one-read, one-answer}
+use Rattle.promises.specs.OneOutcome.{one-answer}
+use Rattle.promises.specs.SameParts.{by-parts-check, ReadAs, by-parts-read}
 use Rattle.promises.specs.SameRows.{decide, same-work}
 
 -- the shorter of two beginnings goes on in the longer
@@ -35,7 +36,7 @@ takes-once xs m n a b = go (decLt m n) (decLt n m)
 
 module _ (E : Engine) (K : Keeps E) where
   pub same-check : (xs : List ℕ) → E .check xs ≡ verdict xs
-  same-check xs = one-check xs (record { no = number; taken = go (ℕ-discrete (verdict xs .no) DONE) }) (record { no = refl; taken = refl })
+  same-check xs = by-parts-check xs (record { no = number; taken = go (ℕ-discrete (verdict xs .no) DONE) }) (record { no = refl; taken = refl })
     where
       number : E .check xs .no ≡ verdict xs .no
       number = one-answer (checkRows xs) _ _ (K .first .check-refusals xs) (ours-keeps .first .check-refusals xs)
@@ -55,7 +56,7 @@ module _ (E : Engine) (K : Keeps E) where
       go (no d) = K .second .rest-gives xs .1 (λ z. d (sym number ∙ z)) ∙ sym (ours-keeps .second .rest-gives xs .1 d)
 
   pub same-read : (ts ws : List ℕ) (h : ℕ) (xs : List ℕ) → E .read ts ws h xs ≡ readIn ts ws h xs
-  same-read ts ws h xs = one-read ts ws h xs (go (ℕ-discrete (readIn ts ws h xs .answer) DONE)) (record { answer = refl; count = refl; table = refl; work = refl })
+  same-read ts ws h xs = by-parts-read ts ws h xs (go (ℕ-discrete (readIn ts ws h xs .answer) DONE)) (record { answer = refl; count = refl; table = refl; work = refl })
     where
       rows : List Row
       rows = readRows ts ws h xs
