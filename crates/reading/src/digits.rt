@@ -1,8 +1,8 @@
 // The value of an atom.
 ghost use mathlib.Core.Path.{_≡_};
-ghost use Prim.Native.Nat.{_+_, _-_, _≤_, _<_};
+ghost use Prim.Native.Nat.{_-_, _≤_, _<_};
 ghost use lib.ListN.{length, drop};
-ghost use Rattle.scan.specs.Runs.{digitRun, numeral};
+ghost use Rattle.scan.specs.Runs.{numeral};
 ghost use Rattle.text.specs.Limits.{atomsEnd};
 use scan::octals;
 
@@ -11,21 +11,6 @@ fn digit(b: u8) -> u32
     ensures { λ r. ⌜ r ≡ b - 48 ⌝ }
 {
     (b - b'0') as u32
-}
-
-// Where the digits that begin at `from` end.
-pub fn end(text: &[u8], from: usize) -> usize
-    requires { ⌜ from ≤ length (now text) ⌝ }
-    ensures { λ r. ⌜ r ≡ from + digitRun (drop from (now (text .entry))) ⌝ }
-{
-    let mut i = from;
-    while i < text.len() {
-        if !octals::is_octal(text[i]) {
-            return i;
-        }
-        i += 1;
-    }
-    i
 }
 
 // The number that the digits at `from` are.

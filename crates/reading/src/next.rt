@@ -4,7 +4,7 @@ ghost use mathlib.Core.Path.{_≡_};
 ghost use Prim.Native.Nat.{_≤_};
 ghost use Rattle.scan.specs.Places.{closedAt, Closing};
 ghost use Rattle.reading.specs.Accepting.{Taken, Accepting, Said, Goes, Closes};
-use crate::digits;
+use scan::octals;
 use scan::step::Place;
 
 // What follows a ")".
@@ -54,7 +54,7 @@ pub fn next(text: &[u8], p: Place) -> Place
     if text[at] == b')' {
         return closed(text, p.depth - 1, p.elements, at + 1);
     }
-    let end = digits::end(text, at + 1);
+    let end = octals::run_end(text, at + 1);
     if text[end] == b',' {
         return Place {
             at: end + 1,
