@@ -21,7 +21,13 @@ pub record Accepting (s : List ℕ) (p : Place) : Type 0 where
   pub counted : p .elements ≤ p .at
   pub answered : (prospectAt s p) .answered ≡ scanned s
 
--- the same of a state of the automaton behind i bytes
+-- a place before the last ")"
+pub record Amid (s : List ℕ) (p : Place) : Type 0 where
+  pub taken : Taken s
+  pub place : Accepting s p
+  pub deep : 1 ≤ p .depth
+
+-- what is said of the text is said of a state of the automaton behind i bytes
 abbrev pub Said : List ℕ → State → ℕ → Type 0
 Said s st i = (prospect st (drop i s)) .answered ≡ scanned s
 

@@ -1,26 +1,20 @@
 -- A text that the check takes begins with "(", and each step from a place of it is a mark, up to its last ")".
 use mathlib.Core.Path.{_≡_, refl, sym, ap, _∙_, subst}
-use mathlib.Core.Bool.{true, false}
 use mathlib.Core.List.{List, [], _∷_, _++_}
 use Prim.Native.Nat.{ℕ, _≤_, _<_}
 use native.Mathlib.Omega.{arith}
 use native.Mathlib.Decide.{ℕ-discrete}
 use borrow.Author.Tests.{ne-eqb}
 use lib.ListN.{length, drop, drop-of-length-le}
-use Rattle.lists.specs.Lst.{Lst, nil, atom, list, Atoms}
 use Rattle.scan.specs.Places.{opened, phaseOf, stateOf, Prospect, prospectAt, emitted, Inside}
 use Rattle.scan.specs.Starts.{no-start}
 use Rattle.scan.specs.declared.step.Place.{Place}
 use Rattle.text.specs.Accepted.{accepted, sized, never-nought}
-use Rattle.text.specs.Bounds.{limits}
-use Rattle.text.specs.MarkLaws.{with-open}
-use Rattle.text.specs.Marks as marks
-use Rattle.text.specs.Marks.{shut, value, marksOf, trace, listIn}
-use Rattle.text.specs.Text.{Answer, Step, State, at, place, begin, settle, run, answer, scanned, refusal}
+use Rattle.text.specs.Marks.{listIn}
+use Rattle.text.specs.Text.{Answer, Step, State, at, place, settle, run, answer, scanned, refusal}
 use Rattle.text.specs.TextLaws.{rests-refused, class}
 use Rattle.reading.specs.Accepting.{Taken, Accepting, Goes}
 use Rattle.reading.specs.MarksLeft.{marksLeft, all-left}
-use Rattle.reading.specs.Underway.{Fitting}
 
 -- a refusal is not what the check says of a text that it takes
 pub refuted : {A : Type 0} (s : List ℕ) → Taken s → (k : ℕ) → scanned s ≡ refusal k → A
@@ -29,35 +23,19 @@ refuted s t k e =
     let z : k ≡ 0 = ap (λ (a : Answer). a .no) (sym e ∙ d) in
     absurd (never-nought s (e ∙ ap refusal z))
 
--- the values of a list are words
-fit-both : (a b : List marks.Mark) → Fitting a → Fitting b → Fitting (a ++ b)
-fit-both [] b f g = g
-fit-both (marks.opened ∷ a) b f g = fit-both a b f g
-fit-both (shut ∷ a) b f g = fit-both a b f g
-fit-both (value v ∷ a) b f g = (f .0, fit-both a b (f .1) g)
-
-fit-list : (l : Lst) → Atoms l → Fitting (marksOf false l)
-unfolding Atoms
-fit-list nil f = tt
-fit-list (atom v l) f = (f .0, fit-list l (f .1))
-fit-list (list e l) f = fit-both (marksOf true e) (marksOf false l) (subst Fitting (sym (with-open e)) (fit-list e (f .0))) (fit-list l (f .1))
-
 -- behind the outermost "("
 pub record First (s : List ℕ) : Type 0 where
   pub place : Accepting s opened
   pub left : (prospectAt s opened) .marks ≡ marksLeft (listIn s) []
-  pub fits : Fitting ((prospectAt s opened) .marks)
 
 behind-open : (bs : List ℕ) → Taken (40 ∷ bs) → First (40 ∷ bs)
 unfolding scanned
 behind-open bs t =
     let s : List ℕ = 40 ∷ bs in
     let all = (accepted s (t .bytes) (t .is)) .0 in
-    let fits : Fitting (trace (at begin 0) s) = subst Fitting (sym (all ∙ with-open (listIn s))) (fit-list (listIn s) ((limits s (t .bytes) (t .is)) .1)) in
     record {
       place = record { within = omega arith; levelled = omega arith; counted = omega arith; answered = refl };
       left = all-left (listIn s) ((prospectAt s opened) .marks) (sym all);
-      fits = fits;
     }
 
 pub first : (s : List ℕ) → Taken s → First s

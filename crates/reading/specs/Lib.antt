@@ -7,10 +7,10 @@ pub mod Hooks
 pub mod HookLaws
 pub mod Underway
 pub mod UnderwayLaws
+pub mod Numbers
 pub mod Accepting
 pub mod AcceptingLaws
 pub mod Room
-pub mod Digits
 pub mod AddLaws
 pub mod Pass
 pub mod PassLaws

@@ -10,12 +10,13 @@ use Rattle.table.specs.declared.Shape.{Shape}
 use Rattle.table.specs.View.{view, Table}
 use Rattle.text.specs.Limits.{levels}
 use Rattle.text.specs.Marks.{listIn}
-use Rattle.reading.specs.Accepting.{Accepting}
+use Rattle.reading.specs.Accepting.{Taken, Accepting}
 use Rattle.reading.specs.Underway.{After}
 use Rattle.reading.specs.declared.hook.Hook.{Hook}
 
 -- from the table ts to the table us
 pub record Pass (s : Shape) (ts : List ℕ) (h : ℕ) (text us : List ℕ) (k : Hook) (xs : List ℕ) (p : Place) : Type 0 where
+  pub taken : Taken text
   pub table : Table s us
   pub long : length xs ≡ levels
   pub place : Accepting text p

@@ -41,7 +41,6 @@ module _ {p : Pool} {h : ℕ} {k : Hook} {cs : List ℕ} {q : Pool} {ms : List M
               (step-atom p h (linkOf k) v (t .rest) (u .opens) q (reads-atom (t .rest) (t .is)));
           cells = u .cells;
           left = t .left;
-          fits = u .fits .1;
         }
 
   -- a list begins
@@ -65,7 +64,6 @@ module _ {p : Pool} {h : ℕ} {k : Hook} {cs : List ℕ} {q : Pool} {ms : List M
               (step-open p h (linkOf k) (t .elem) (t .rest) (u .opens) q (reads-list (t .elem) (t .rest) (t .is)));
           cells = ap (λ (l : List ℕ). p .free ∷ l) (u .cells);
           left = t .left (p .free);
-          fits = u .fits;
         }
 
 -- and is the top of the array
@@ -100,7 +98,6 @@ shut-after {p} {h} {k} xs d e {q} {ms} l z u =
             reading = subst (λ (j : Link). Reading (hang (linkOf k) h 0 p) h j (o .rest) os q) (ap after (t .is) ∙ sym (is-after (hookAfter (getD xs e 0)) some refl)) (step-shut p h (linkOf k) o os q r);
             cells = t .rest;
             left = m;
-            fits = u .fits;
           };
         }
 

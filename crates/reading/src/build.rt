@@ -5,13 +5,13 @@ ghost use lib.ListN.{length};
 ghost use Rattle.lists.specs.Lst.{extent};
 ghost use Rattle.pool.specs.Operations.{read};
 ghost use Rattle.pool.specs.Pool.{frees, Sound};
-ghost use Rattle.scan.specs.Places.{shuts, emitted, Inside};
+ghost use Rattle.scan.specs.Places.{shuts, passed};
 ghost use Rattle.table.specs.View.{holderCount, view, Table, Shows};
 ghost use Rattle.text.specs.Limits.{levels};
 ghost use Rattle.text.specs.Marks.{listIn};
 ghost use Rattle.reading.specs.Accepting.{Taken};
 ghost use Rattle.reading.specs.Hooks.{stack};
-ghost use Rattle.reading.specs.Underway.{Ready, Steps};
+ghost use Rattle.reading.specs.Underway.{Adding, Ready, Steps};
 use crate::digits;
 use crate::hook;
 use crate::hook::Hook;
@@ -38,24 +38,19 @@ fn shut(s: Shape, t: &mut [u32], h: usize, k: Hook, lists: &[u32; 200], from: u3
     at
 }
 
-// What stands between two places of the text: a list begins, or an atom or nothing stands before the ends of lists.
+// What stands between two places of the text: a list begins, or an atom of the value v or nothing stands before the ends of lists.
 fn add(
     s: Shape,
     t: &mut [u32],
     h: usize,
     k: Hook,
     lists: &mut [u32; 200],
-    text: &[u8],
     p: Place,
     q: Place,
+    v: u32,
 ) -> Hook
-    requires { ⌜ Table s (now t) ⌝ }
-    requires { ⌜ h < holderCount s ⌝ }
-    requires { ⌜ length (now lists) ≡ levels ⌝ }
-    requires { ⌜ Inside (now text) p ⌝ }
-    requires { ⌜ (q .depth ≤ p .depth + 1) × (q .depth ≤ levels) ⌝ }
-    requires { ⌜ Ready (view s (now t)) h k (stack (now lists) (p .depth - 1)) (emitted (now text) p q) ⌝ }
-    ensures { λ r. ⌜ (length (now (lists .exit)) ≡ levels) × Steps s h (now (t .entry)) k (stack (now (lists .entry)) (p .depth - 1)) (emitted (now (text .entry)) p q) (now (t .exit)) r (now (lists .exit)) (q .depth) ⌝ }
+    requires { ⌜ Adding s (now t) h k (now lists) p q v ⌝ }
+    ensures { λ r. ⌜ (length (now (lists .exit)) ≡ levels) × Steps s h (now (t .entry)) k (stack (now (lists .entry)) (p .depth - 1)) (passed v p q) (now (t .exit)) r (now (lists .exit)) (q .depth) ⌝ }
 {
     if q.depth > p.depth {
         let c = hook::begin(s, t, h, k, 1, 0);
@@ -64,7 +59,6 @@ fn add(
         return Hook { cell: c, inside: 1 };
     }
     if q.elements > p.elements {
-        let v = digits::value(text, p.at);
         let c = hook::begin(s, t, h, k, 0, v);
         return shut(
             s,
@@ -92,8 +86,9 @@ pub fn build(s: Shape, t: &mut [u32], h: usize, text: &[u8])
     let mut k = Hook { cell: 0, inside: 0 };
     let mut p = Place::opened();
     while p.depth > 0 {
-        let q = next::next(text, p);
-        k = add(s, t, h, k, &mut lists, text, p, q);
+        let n = digits::number_at(text, p.at);
+        let q = next::next(text, p, n.end);
+        k = add(s, t, h, k, &mut lists, p, q, n.value);
         p = q;
     }
 }

@@ -1,10 +1,13 @@
-// The value of an atom.
+// An atom of a text that is known to be a list: its value, and where it ends, in one walk over its digits.
 ghost use mathlib.Core.Path.{_≡_};
-ghost use Prim.Native.Nat.{_-_, _≤_, _<_};
-ghost use lib.ListN.{length, drop};
-ghost use Rattle.scan.specs.Runs.{numeral};
-ghost use Rattle.text.specs.Limits.{atomsEnd};
+ghost use Prim.Native.Nat.{_-_, _≤_};
+ghost use Rattle.reading.specs.Numbers.{numberAt, Numbered};
 use scan::octals;
+
+pub struct Number {
+    pub value: u32,
+    pub end: usize,
+}
 
 fn digit(b: u8) -> u32
     requires { ⌜ 48 ≤ b ⌝ }
@@ -13,20 +16,16 @@ fn digit(b: u8) -> u32
     (b - b'0') as u32
 }
 
-// The number that the digits at `from` are.
-pub fn value(text: &[u8], from: usize) -> u32
-    requires { ⌜ from ≤ length (now text) ⌝ }
-    requires { ⌜ numeral 0 (drop from (now text)) < atomsEnd ⌝ }
-    ensures { λ r. ⌜ r ≡ numeral 0 (drop from (now (text .entry))) ⌝ }
+// The digits at `from`; of none the value is 0.
+pub fn number_at(text: &[u8], from: usize) -> Number
+    requires { ⌜ Numbered (now text) from ⌝ }
+    ensures { λ r. ⌜ r ≡ numberAt (now (text .entry)) from ⌝ }
 {
-    let mut v = 0;
+    let mut value = 0;
     let mut i = from;
-    while i < text.len() {
-        if !octals::is_octal(text[i]) {
-            return v;
-        }
-        v = v * 8 + digit(text[i]);
+    while octals::is_octal(text[i]) {
+        value = value * 8 + digit(text[i]);
         i += 1;
     }
-    v
+    Number { value, end: i }
 }

@@ -1,10 +1,9 @@
 // The places of a text that is known to be a list: what may follow is known, so few characters are looked at.
 // The check's own steps stay called from one place, which keeps them quick.
 ghost use mathlib.Core.Path.{_≡_};
-ghost use Prim.Native.Nat.{_≤_};
 ghost use Rattle.scan.specs.Places.{closedAt, Closing};
-ghost use Rattle.reading.specs.Accepting.{Taken, Accepting, Said, Goes, Closes};
-use scan::octals;
+ghost use Rattle.reading.specs.Accepting.{Taken, Amid, Said, Goes, Closes};
+ghost use Rattle.reading.specs.Numbers.{endAt};
 use scan::step::Place;
 
 // What follows a ")".
@@ -36,10 +35,10 @@ fn closed(text: &[u8], depth: u32, elements: u32, at: usize) -> Place
     }
 }
 
-pub fn next(text: &[u8], p: Place) -> Place
-    requires { ⌜ Taken (now text) ⌝ }
-    requires { ⌜ Accepting (now text) p ⌝ }
-    requires { ⌜ 1 ≤ p .depth ⌝ }
+// Digits that begin at p, or none, end at `end`.
+pub fn next(text: &[u8], p: Place, end: usize) -> Place
+    requires { ⌜ Amid (now text) p ⌝ }
+    requires { ⌜ end ≡ endAt (now text) (p .at) ⌝ }
     ensures { λ r. ⌜ Goes (now (text .entry)) p r ⌝ }
 {
     let at = p.at;
@@ -54,7 +53,6 @@ pub fn next(text: &[u8], p: Place) -> Place
     if text[at] == b')' {
         return closed(text, p.depth - 1, p.elements, at + 1);
     }
-    let end = octals::run_end(text, at + 1);
     if text[end] == b',' {
         return Place {
             at: end + 1,

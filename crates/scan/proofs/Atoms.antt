@@ -21,7 +21,7 @@ use Rattle.scan.proofs.RunLaws.{next, digit-bounds}
 use Rattle.scan.proofs.Outlooks.{turned, faulted, digit-goes, digit-marks}
 
 -- x with j zeros behind it
-abbrev scale : ℕ → ℕ → ℕ
+abbrev pub scale : ℕ → ℕ → ℕ
 scale zero x = x
 scale (suc j) x = scale j x * 8
 
@@ -88,6 +88,22 @@ past-digits (b ∷ l) d j v n f lo hi most small =
       same = ap (λ (m : ℕ). prospect (at (place inAtom d (j + 1) v) m) (b ∷ l)) (sym z);
     })
     most small
+
+-- the value of such digits is a word
+pub numeral-fits : (l : List ℕ) (j v f : ℕ) → v < scale j (f + 1) → scale (j + digitRun l) (f + 1) ≤ atomsEnd → numeral v l < atomsEnd
+numeral-fits [] j v f hi small =
+    let z : j + 0 ≡ j = omega arith in
+    omega (arith, subst (λ (m : ℕ). scale m (f + 1) ≤ atomsEnd) z small)
+numeral-fits (b ∷ l) j v f hi small =
+    by-case (isDigit b) (λ (c : ℕ). scale (j + c) (f + 1) ≤ atomsEnd → numeral v (b ∷ l) < atomsEnd) {x = suc (digitRun l)} {y = 0}
+    (λ e fits.
+    let digit = digit-bounds b e in
+    let q : j + suc (digitRun l) ≡ j + 1 + digitRun l = omega arith in
+    rw e (numeral-fits l (j + 1) (v * 8 + (b - 48)) f (omega (arith, one-more j (f + 1))) (subst (λ (m : ℕ). scale m (f + 1) ≤ atomsEnd) q fits)))
+    (λ e fits.
+    let z : j + 0 ≡ j = omega arith in
+    rw e (omega (arith, subst (λ (m : ℕ). scale m (f + 1) ≤ atomsEnd) z fits)))
+    small
 
 -- a run that is too long
 stopped : (l : List ℕ) (d j v n f : ℕ) → scale j f ≤ v → v < atomsEnd → j < digitsMost

@@ -84,11 +84,13 @@ abbrev pub shuts : ℕ → List Mark
 shuts zero = []
 shuts (suc n) = shut ∷ shuts n
 
--- the marks between two places: a list begins, or an atom or nothing stands before the ends of lists
+-- the marks between two places: a list begins, or an atom of the value v or nothing stands before the ends of lists
+abbrev pub passed : ℕ → Place → Place → List Mark
+passed v p q =
+    cond (ltb (p .depth) (q .depth)) (marks.opened ∷ []) (cond (ltb (p .elements) (q .elements)) (value v ∷ []) [] ++ shuts (p .depth - q .depth))
+
 abbrev pub emitted : List ℕ → Place → Place → List Mark
-emitted s p q =
-    cond (ltb (p .depth) (q .depth)) (marks.opened ∷ [])
-    (cond (ltb (p .elements) (q .elements)) (value (numeral 0 (drop (p .at) s)) ∷ []) [] ++ shuts (p .depth - q .depth))
+emitted s p q = passed (numeral 0 (drop (p .at) s)) p q
 
 -- a place inside a list, with a character to look at
 pub record Inside (s : List ℕ) (p : Place) : Type 0 where

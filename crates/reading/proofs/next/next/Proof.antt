@@ -2,79 +2,102 @@
 use mathlib.Core.Path.{sym, _∙_}
 use native.Mathlib.Omega.{arith}
 use borrow.Author.Needs.{needs}
+use Rattle.scan.specs.Places.{Inside}
 use Rattle.scan.specs.declared.step.Step.the-variants.{Mark}
 use Rattle.scan.proofs.Tokens.{shut-answered, atom-answered, taken-shut, taken-comma, taken-closed}
-use Rattle.reading.proofs.Nexts.{here, opens, empty, digit, short, more, ends}
+use Rattle.reading.proofs.Nexts.{AtomTo, here, opens, empty, atom-to}
 use Rattle.reading.proofs.next.next.Statement.{statement}
 use Rattle.reading.proofs.next.next.Tie as tie
 
+inside : (c : tie.Start) → Inside (c .args .text .now) (c .args .p)
+inside c = here (c .pre .0)
+
+-- neither "(" nor ")"
+atom : (c : tie.Else2) → AtomTo (c .before .before .before .before .before .args .text .now) (c .before .before .before .before .before .args .p) (c .before .before .before .before .before .args .end)
+atom c =
+    let start = c .before .before .before .before .before in
+    atom-to (start .pre .0) (c .before .before .if1 .left) (c .if2 .left) (start .pre .1)
+
 shared-slice-read-if1 : tie.Need-shared-slice-read-if1
-shared-slice-read-if1 c = (here (c .before .before .args .text .now) (c .before .before .pre .0) (c .before .before .args .p) (c .before .before .pre .1 .0) (c .before .before .pre .1 .1)) .some
+shared-slice-read-if1 c = inside (c .before .before) .some
 
 add-t8 : tie.Need-add-t8
-add-t8 c = omega (arith, (here (c .before .before .before .args .text .now) (c .before .before .before .pre .0) (c .before .before .before .args .p) (c .before .before .before .pre .1 .0) (c .before .before .before .pre .1 .1)) .some, (here (c .before .before .before .args .text .now) (c .before .before .before .pre .0) (c .before .before .before .args .p) (c .before .before .before .pre .1 .0) (c .before .before .before .pre .1 .1)) .small)
+add-t8 c = let h = inside (c .before .before .before) in omega arith
 
 add-t9 : tie.Need-add-t9
-add-t9 c = omega (arith, (here (c .before .before .before .before .args .text .now) (c .before .before .before .before .pre .0) (c .before .before .before .before .args .p) (c .before .before .before .before .pre .1 .0) (c .before .before .before .before .pre .1 .1)) .levelled)
+add-t9 c = let h = inside (c .before .before .before .before) in omega arith
 
 add-t10 : tie.Need-add-t10
-add-t10 c = omega (arith, (here (c .before .before .before .before .before .args .text .now) (c .before .before .before .before .before .pre .0) (c .before .before .before .before .before .args .p) (c .before .before .before .before .before .pre .1 .0) (c .before .before .before .before .before .pre .1 .1)) .counted, (here (c .before .before .before .before .before .args .text .now) (c .before .before .before .before .before .pre .0) (c .before .before .before .before .before .args .p) (c .before .before .before .before .before .pre .1 .0) (c .before .before .before .before .before .pre .1 .1)) .some, (here (c .before .before .before .before .before .args .text .now) (c .before .before .before .before .before .pre .0) (c .before .before .before .before .before .args .p) (c .before .before .before .before .before .pre .1 .0) (c .before .before .before .before .before .pre .1 .1)) .small)
+add-t10 c = let h = inside (c .before .before .before .before .before) in omega arith
 
 returns : tie.Need-returns
-returns c = opens (c .before .before .before .before .before .args .text .now) (c .before .before .before .before .before .pre .0) (c .before .before .before .before .before .args .p) (c .before .before .before .before .before .pre .1 .0) (c .before .before .before .before .before .pre .1 .1) (c .before .before .if1 .taken)
+returns c = opens (c .before .before .before .before .before .pre .0) (c .before .before .if1 .taken)
 
 shared-slice-read-if2 : tie.Need-shared-slice-read-if2
-shared-slice-read-if2 c = (here (c .before .before .before .before .args .text .now) (c .before .before .before .before .pre .0) (c .before .before .before .before .args .p) (c .before .before .before .before .pre .1 .0) (c .before .before .before .before .pre .1 .1)) .some
+shared-slice-read-if2 c = inside (c .before .before .before .before) .some
 
 sub-closed : tie.Need-sub-closed
-sub-closed c = search needs
+sub-closed c = let h = inside (c .before .before .before .before .before .before) in omega arith
 
 add-closed : tie.Need-add-closed
-add-closed c = omega (arith, (here (c .before .before .before .before .before .before .args .text .now) (c .before .before .before .before .before .before .pre .0) (c .before .before .before .before .before .before .args .p) (c .before .before .before .before .before .before .pre .1 .0) (c .before .before .before .before .before .before .pre .1 .1)) .some, (here (c .before .before .before .before .before .before .args .text .now) (c .before .before .before .before .before .before .pre .0) (c .before .before .before .before .before .before .args .p) (c .before .before .before .before .before .before .pre .1 .0) (c .before .before .before .before .before .before .pre .1 .1)) .small)
+add-closed c = let h = inside (c .before .before .before .before .before .before) in omega arith
 
 closed-requires : tie.Need-closed-requires
 closed-requires c κs =
-    let h = (here (c .before .before .before .before .before .before .args .text .now) (c .before .before .before .before .before .before .pre .0) (c .before .before .before .before .before .before .args .p) (c .before .before .before .before .before .before .pre .1 .0) (c .before .before .before .before .before .before .pre .1 .1)) in
-    (c .before .before .before .before .before .before .pre .0, (record { some = omega arith; within = omega (arith, h .some); small = h .small; levelled = omega (arith, h .levelled); counted = omega (arith, h .counted) }, sym (shut-answered (c .before .before .before .before .before .before .args .text .now) (c .before .before .before .before .before .before .args .p) h (empty (c .before .before .before .before .before .before .args .text .now) (c .before .before .before .before .before .before .pre .0) (c .before .before .before .before .before .before .args .p) (c .before .before .before .before .before .before .pre .1 .0) (c .before .before .before .before .before .before .pre .1 .1) (c .before .if2 .taken)) (c .before .if2 .taken)) ∙ c .before .before .before .before .before .before .pre .1 .0 .answered))
+    let start = c .before .before .before .before .before .before in
+    let h = inside start in
+    let shut = c .before .if2 .taken in
+    (start .pre .0 .taken, (record { some = omega arith; within = omega arith; small = h .small; levelled = omega arith; counted = omega arith }, sym (shut-answered (start .args .text .now) (start .args .p) h (empty (start .pre .0) shut) shut) ∙ start .pre .0 .place .answered))
 
 returns-2 : tie.Need-returns-2
-returns-2 c = taken-shut (c .before .before .before .before .before .before .before .args .text .now) (c .before .before .before .before .before .before .before .args .p) (here (c .before .before .before .before .before .before .before .args .text .now) (c .before .before .before .before .before .before .before .pre .0) (c .before .before .before .before .before .before .before .args .p) (c .before .before .before .before .before .before .before .pre .1 .0) (c .before .before .before .before .before .before .before .pre .1 .1)) (empty (c .before .before .before .before .before .before .before .args .text .now) (c .before .before .before .before .before .before .before .pre .0) (c .before .before .before .before .before .before .before .args .p) (c .before .before .before .before .before .before .before .pre .1 .0) (c .before .before .before .before .before .before .before .pre .1 .1) (c .before .before .if2 .taken)) (c .before .before .if2 .taken) (Mark (c .closed .result)) (c .closed .ensures)
-
-add-run-end : tie.Need-add-run-end
-add-run-end c = omega (arith, (here (c .before .before .before .before .before .args .text .now) (c .before .before .before .before .before .pre .0) (c .before .before .before .before .before .args .p) (c .before .before .before .before .before .pre .1 .0) (c .before .before .before .before .before .pre .1 .1)) .some, (here (c .before .before .before .before .before .args .text .now) (c .before .before .before .before .before .pre .0) (c .before .before .before .before .before .args .p) (c .before .before .before .before .before .pre .1 .0) (c .before .before .before .before .before .pre .1 .1)) .small)
-
-run-end-requires : tie.Need-run-end-requires
-run-end-requires c κs = omega (arith, (here (c .before .before .before .before .before .args .text .now) (c .before .before .before .before .before .pre .0) (c .before .before .before .before .before .args .p) (c .before .before .before .before .before .pre .1 .0) (c .before .before .before .before .before .pre .1 .1)) .some)
+returns-2 c =
+    let start = c .before .before .before .before .before .before .before in
+    let shut = c .before .before .if2 .taken in
+    taken-shut (start .args .text .now) (start .args .p) (inside start) (empty (start .pre .0) shut) shut (Mark (c .closed .result)) (c .closed .ensures)
 
 shared-slice-read-if3 : tie.Need-shared-slice-read-if3
-shared-slice-read-if3 c = (more (c .before .before .before .before .before .before .before .args .text .now) (c .before .before .before .before .before .before .before .pre .0) (c .before .before .before .before .before .before .before .args .p) (c .before .before .before .before .before .before .before .pre .1 .0) (c .before .before .before .before .before .before .before .pre .1 .1) (digit (c .before .before .before .before .before .before .before .args .text .now) (c .before .before .before .before .before .before .before .pre .0) (c .before .before .before .before .before .before .before .args .p) (c .before .before .before .before .before .before .before .pre .1 .0) (c .before .before .before .before .before .before .before .pre .1 .1) (c .before .before .before .before .if1 .left) (c .before .before .if2 .left)) (c .before .run-end .result) (c .before .run-end .ensures))
+shared-slice-read-if3 c = atom (c .before) .more
+
+add-t15 : tie.Need-add-t15
+add-t15 c =
+    let h = inside (c .before .before .before .before .before .before .before) in
+    let a = atom (c .before .before) in
+    omega arith
 
 add-t16 : tie.Need-add-t16
-add-t16 c = omega (arith, (more (c .before .before .before .before .before .before .before .before .args .text .now) (c .before .before .before .before .before .before .before .before .pre .0) (c .before .before .before .before .before .before .before .before .args .p) (c .before .before .before .before .before .before .before .before .pre .1 .0) (c .before .before .before .before .before .before .before .before .pre .1 .1) (digit (c .before .before .before .before .before .before .before .before .args .text .now) (c .before .before .before .before .before .before .before .before .pre .0) (c .before .before .before .before .before .before .before .before .args .p) (c .before .before .before .before .before .before .before .before .pre .1 .0) (c .before .before .before .before .before .before .before .before .pre .1 .1) (c .before .before .before .before .before .if1 .left) (c .before .before .before .if2 .left)) (c .before .before .run-end .result) (c .before .before .run-end .ensures)), (here (c .before .before .before .before .before .before .before .before .args .text .now) (c .before .before .before .before .before .before .before .before .pre .0) (c .before .before .before .before .before .before .before .before .args .p) (c .before .before .before .before .before .before .before .before .pre .1 .0) (c .before .before .before .before .before .before .before .before .pre .1 .1)) .small)
-
-add-t17 : tie.Need-add-t17
-add-t17 c = omega (arith, (here (c .before .before .before .before .before .before .before .before .before .args .text .now) (c .before .before .before .before .before .before .before .before .before .pre .0) (c .before .before .before .before .before .before .before .before .before .args .p) (c .before .before .before .before .before .before .before .before .before .pre .1 .0) (c .before .before .before .before .before .before .before .before .before .pre .1 .1)) .counted, (here (c .before .before .before .before .before .before .before .before .before .args .text .now) (c .before .before .before .before .before .before .before .before .before .pre .0) (c .before .before .before .before .before .before .before .before .before .args .p) (c .before .before .before .before .before .before .before .before .before .pre .1 .0) (c .before .before .before .before .before .before .before .before .before .pre .1 .1)) .some, (here (c .before .before .before .before .before .before .before .before .before .args .text .now) (c .before .before .before .before .before .before .before .before .before .pre .0) (c .before .before .before .before .before .before .before .before .before .args .p) (c .before .before .before .before .before .before .before .before .before .pre .1 .0) (c .before .before .before .before .before .before .before .before .before .pre .1 .1)) .small)
+add-t16 c = let h = inside (c .before .before .before .before .before .before .before .before) in omega arith
 
 returns-3 : tie.Need-returns-3
-returns-3 c = taken-comma (c .before .before .before .before .before .before .before .before .before .args .text .now) (c .before .before .before .before .before .before .before .before .before .args .p) (here (c .before .before .before .before .before .before .before .before .before .args .text .now) (c .before .before .before .before .before .before .before .before .before .pre .0) (c .before .before .before .before .before .before .before .before .before .args .p) (c .before .before .before .before .before .before .before .before .before .pre .1 .0) (c .before .before .before .before .before .before .before .before .before .pre .1 .1)) (digit (c .before .before .before .before .before .before .before .before .before .args .text .now) (c .before .before .before .before .before .before .before .before .before .pre .0) (c .before .before .before .before .before .before .before .before .before .args .p) (c .before .before .before .before .before .before .before .before .before .pre .1 .0) (c .before .before .before .before .before .before .before .before .before .pre .1 .1) (c .before .before .before .before .before .before .if1 .left) (c .before .before .before .before .if2 .left)) (c .before .before .before .run-end .result) (c .before .before .before .run-end .ensures) (short (c .before .before .before .before .before .before .before .before .before .args .text .now) (c .before .before .before .before .before .before .before .before .before .pre .0) (c .before .before .before .before .before .before .before .before .before .args .p) (c .before .before .before .before .before .before .before .before .before .pre .1 .0) (c .before .before .before .before .before .before .before .before .before .pre .1 .1) (digit (c .before .before .before .before .before .before .before .before .before .args .text .now) (c .before .before .before .before .before .before .before .before .before .pre .0) (c .before .before .before .before .before .before .before .before .before .args .p) (c .before .before .before .before .before .before .before .before .before .pre .1 .0) (c .before .before .before .before .before .before .before .before .before .pre .1 .1) (c .before .before .before .before .before .before .if1 .left) (c .before .before .before .before .if2 .left)) (c .before .before .before .run-end .result) (c .before .before .before .run-end .ensures)) (more (c .before .before .before .before .before .before .before .before .before .args .text .now) (c .before .before .before .before .before .before .before .before .before .pre .0) (c .before .before .before .before .before .before .before .before .before .args .p) (c .before .before .before .before .before .before .before .before .before .pre .1 .0) (c .before .before .before .before .before .before .before .before .before .pre .1 .1) (digit (c .before .before .before .before .before .before .before .before .before .args .text .now) (c .before .before .before .before .before .before .before .before .before .pre .0) (c .before .before .before .before .before .before .before .before .before .args .p) (c .before .before .before .before .before .before .before .before .before .pre .1 .0) (c .before .before .before .before .before .before .before .before .before .pre .1 .1) (c .before .before .before .before .before .before .if1 .left) (c .before .before .before .before .if2 .left)) (c .before .before .before .run-end .result) (c .before .before .before .run-end .ensures)) (c .before .if3 .taken)
+returns-3 c =
+    let start = c .before .before .before .before .before .before .before .before in
+    let a = atom (c .before .before .before) in
+    taken-comma (start .args .text .now) (start .args .p) (inside start) (a .digit) (start .args .end) (a .run) (a .short) (a .more) (c .before .if3 .taken)
 
 sub-closed-2 : tie.Need-sub-closed-2
-sub-closed-2 c = search needs
+sub-closed-2 c = let h = inside (c .before .before .before .before .before .before .before .before) in omega arith
 
 add-closed-2 : tie.Need-add-closed-2
-add-closed-2 c = omega (arith, (here (c .before .before .before .before .before .before .before .before .before .before .args .text .now) (c .before .before .before .before .before .before .before .before .before .before .pre .0) (c .before .before .before .before .before .before .before .before .before .before .args .p) (c .before .before .before .before .before .before .before .before .before .before .pre .1 .0) (c .before .before .before .before .before .before .before .before .before .before .pre .1 .1)) .counted, (here (c .before .before .before .before .before .before .before .before .before .before .args .text .now) (c .before .before .before .before .before .before .before .before .before .before .pre .0) (c .before .before .before .before .before .before .before .before .before .before .args .p) (c .before .before .before .before .before .before .before .before .before .before .pre .1 .0) (c .before .before .before .before .before .before .before .before .before .before .pre .1 .1)) .some, (here (c .before .before .before .before .before .before .before .before .before .before .args .text .now) (c .before .before .before .before .before .before .before .before .before .before .pre .0) (c .before .before .before .before .before .before .before .before .before .before .args .p) (c .before .before .before .before .before .before .before .before .before .before .pre .1 .0) (c .before .before .before .before .before .before .before .before .before .before .pre .1 .1)) .small)
+add-closed-2 c = let h = inside (c .before .before .before .before .before .before .before .before .before) in omega arith
 
 add-closed-3 : tie.Need-add-closed-3
-add-closed-3 c = omega (arith, (more (c .before .before .before .before .before .before .before .before .before .before .args .text .now) (c .before .before .before .before .before .before .before .before .before .before .pre .0) (c .before .before .before .before .before .before .before .before .before .before .args .p) (c .before .before .before .before .before .before .before .before .before .before .pre .1 .0) (c .before .before .before .before .before .before .before .before .before .before .pre .1 .1) (digit (c .before .before .before .before .before .before .before .before .before .before .args .text .now) (c .before .before .before .before .before .before .before .before .before .before .pre .0) (c .before .before .before .before .before .before .before .before .before .before .args .p) (c .before .before .before .before .before .before .before .before .before .before .pre .1 .0) (c .before .before .before .before .before .before .before .before .before .before .pre .1 .1) (c .before .before .before .before .before .before .before .if1 .left) (c .before .before .before .before .before .if2 .left)) (c .before .before .before .before .run-end .result) (c .before .before .before .before .run-end .ensures)), (here (c .before .before .before .before .before .before .before .before .before .before .args .text .now) (c .before .before .before .before .before .before .before .before .before .before .pre .0) (c .before .before .before .before .before .before .before .before .before .before .args .p) (c .before .before .before .before .before .before .before .before .before .before .pre .1 .0) (c .before .before .before .before .before .before .before .before .before .before .pre .1 .1)) .small)
+add-closed-3 c =
+    let h = inside (c .before .before .before .before .before .before .before .before .before) in
+    let a = atom (c .before .before .before .before) in
+    omega arith
 
 closed-requires-2 : tie.Need-closed-requires-2
 closed-requires-2 c κs =
-    let h = (here (c .before .before .before .before .before .before .before .before .before .before .args .text .now) (c .before .before .before .before .before .before .before .before .before .before .pre .0) (c .before .before .before .before .before .before .before .before .before .before .args .p) (c .before .before .before .before .before .before .before .before .before .before .pre .1 .0) (c .before .before .before .before .before .before .before .before .before .before .pre .1 .1)) in
-    let m = (more (c .before .before .before .before .before .before .before .before .before .before .args .text .now) (c .before .before .before .before .before .before .before .before .before .before .pre .0) (c .before .before .before .before .before .before .before .before .before .before .args .p) (c .before .before .before .before .before .before .before .before .before .before .pre .1 .0) (c .before .before .before .before .before .before .before .before .before .before .pre .1 .1) (digit (c .before .before .before .before .before .before .before .before .before .before .args .text .now) (c .before .before .before .before .before .before .before .before .before .before .pre .0) (c .before .before .before .before .before .before .before .before .before .before .args .p) (c .before .before .before .before .before .before .before .before .before .before .pre .1 .0) (c .before .before .before .before .before .before .before .before .before .before .pre .1 .1) (c .before .before .before .before .before .before .before .if1 .left) (c .before .before .before .before .before .if2 .left)) (c .before .before .before .before .run-end .result) (c .before .before .before .before .run-end .ensures)) in
-    (c .before .before .before .before .before .before .before .before .before .before .pre .0, (record { some = omega arith; within = omega arith; small = h .small; levelled = omega (arith, h .levelled); counted = omega (arith, h .counted, c .before .before .before .before .run-end .ensures) }, sym (atom-answered (c .before .before .before .before .before .before .before .before .before .before .args .text .now) (c .before .before .before .before .before .before .before .before .before .before .args .p) h (digit (c .before .before .before .before .before .before .before .before .before .before .args .text .now) (c .before .before .before .before .before .before .before .before .before .before .pre .0) (c .before .before .before .before .before .before .before .before .before .before .args .p) (c .before .before .before .before .before .before .before .before .before .before .pre .1 .0) (c .before .before .before .before .before .before .before .before .before .before .pre .1 .1) (c .before .before .before .before .before .before .before .if1 .left) (c .before .before .before .before .before .if2 .left)) (c .before .before .before .before .run-end .result) (c .before .before .before .before .run-end .ensures) (short (c .before .before .before .before .before .before .before .before .before .before .args .text .now) (c .before .before .before .before .before .before .before .before .before .before .pre .0) (c .before .before .before .before .before .before .before .before .before .before .args .p) (c .before .before .before .before .before .before .before .before .before .before .pre .1 .0) (c .before .before .before .before .before .before .before .before .before .before .pre .1 .1) (digit (c .before .before .before .before .before .before .before .before .before .before .args .text .now) (c .before .before .before .before .before .before .before .before .before .before .pre .0) (c .before .before .before .before .before .before .before .before .before .before .args .p) (c .before .before .before .before .before .before .before .before .before .before .pre .1 .0) (c .before .before .before .before .before .before .before .before .before .before .pre .1 .1) (c .before .before .before .before .before .before .before .if1 .left) (c .before .before .before .before .before .if2 .left)) (c .before .before .before .before .run-end .result) (c .before .before .before .before .run-end .ensures)) m (ends (c .before .before .before .before .before .before .before .before .before .before .args .text .now) (c .before .before .before .before .before .before .before .before .before .before .pre .0) (c .before .before .before .before .before .before .before .before .before .before .args .p) (c .before .before .before .before .before .before .before .before .before .before .pre .1 .0) (c .before .before .before .before .before .before .before .before .before .before .pre .1 .1) (digit (c .before .before .before .before .before .before .before .before .before .before .args .text .now) (c .before .before .before .before .before .before .before .before .before .before .pre .0) (c .before .before .before .before .before .before .before .before .before .before .args .p) (c .before .before .before .before .before .before .before .before .before .before .pre .1 .0) (c .before .before .before .before .before .before .before .before .before .before .pre .1 .1) (c .before .before .before .before .before .before .before .if1 .left) (c .before .before .before .before .before .if2 .left)) (c .before .before .before .before .run-end .result) (c .before .before .before .before .run-end .ensures) (c .before .before .if3 .left))) ∙ c .before .before .before .before .before .before .before .before .before .before .pre .1 .0 .answered))
+    let start = c .before .before .before .before .before .before .before .before .before in
+    let h = inside start in
+    let a = atom (c .before .before .before .before) in
+    let shut = a .ends (c .before .before .if3 .left) in
+    (start .pre .0 .taken, (record { some = omega arith; within = omega arith; small = h .small; levelled = omega arith; counted = omega arith }, sym (atom-answered (start .args .text .now) (start .args .p) h (a .digit) (start .args .end) (a .run) (a .short) (a .more) shut) ∙ start .pre .0 .place .answered))
 
 returns-4 : tie.Need-returns-4
-returns-4 c = taken-closed (c .before .before .before .before .before .before .before .before .before .before .before .args .text .now) (c .before .before .before .before .before .before .before .before .before .before .before .args .p) (here (c .before .before .before .before .before .before .before .before .before .before .before .args .text .now) (c .before .before .before .before .before .before .before .before .before .before .before .pre .0) (c .before .before .before .before .before .before .before .before .before .before .before .args .p) (c .before .before .before .before .before .before .before .before .before .before .before .pre .1 .0) (c .before .before .before .before .before .before .before .before .before .before .before .pre .1 .1)) (digit (c .before .before .before .before .before .before .before .before .before .before .before .args .text .now) (c .before .before .before .before .before .before .before .before .before .before .before .pre .0) (c .before .before .before .before .before .before .before .before .before .before .before .args .p) (c .before .before .before .before .before .before .before .before .before .before .before .pre .1 .0) (c .before .before .before .before .before .before .before .before .before .before .before .pre .1 .1) (c .before .before .before .before .before .before .before .before .if1 .left) (c .before .before .before .before .before .before .if2 .left)) (c .before .before .before .before .before .run-end .result) (c .before .before .before .before .before .run-end .ensures) (short (c .before .before .before .before .before .before .before .before .before .before .before .args .text .now) (c .before .before .before .before .before .before .before .before .before .before .before .pre .0) (c .before .before .before .before .before .before .before .before .before .before .before .args .p) (c .before .before .before .before .before .before .before .before .before .before .before .pre .1 .0) (c .before .before .before .before .before .before .before .before .before .before .before .pre .1 .1) (digit (c .before .before .before .before .before .before .before .before .before .before .before .args .text .now) (c .before .before .before .before .before .before .before .before .before .before .before .pre .0) (c .before .before .before .before .before .before .before .before .before .before .before .args .p) (c .before .before .before .before .before .before .before .before .before .before .before .pre .1 .0) (c .before .before .before .before .before .before .before .before .before .before .before .pre .1 .1) (c .before .before .before .before .before .before .before .before .if1 .left) (c .before .before .before .before .before .before .if2 .left)) (c .before .before .before .before .before .run-end .result) (c .before .before .before .before .before .run-end .ensures)) (more (c .before .before .before .before .before .before .before .before .before .before .before .args .text .now) (c .before .before .before .before .before .before .before .before .before .before .before .pre .0) (c .before .before .before .before .before .before .before .before .before .before .before .args .p) (c .before .before .before .before .before .before .before .before .before .before .before .pre .1 .0) (c .before .before .before .before .before .before .before .before .before .before .before .pre .1 .1) (digit (c .before .before .before .before .before .before .before .before .before .before .before .args .text .now) (c .before .before .before .before .before .before .before .before .before .before .before .pre .0) (c .before .before .before .before .before .before .before .before .before .before .before .args .p) (c .before .before .before .before .before .before .before .before .before .before .before .pre .1 .0) (c .before .before .before .before .before .before .before .before .before .before .before .pre .1 .1) (c .before .before .before .before .before .before .before .before .if1 .left) (c .before .before .before .before .before .before .if2 .left)) (c .before .before .before .before .before .run-end .result) (c .before .before .before .before .before .run-end .ensures)) (ends (c .before .before .before .before .before .before .before .before .before .before .before .args .text .now) (c .before .before .before .before .before .before .before .before .before .before .before .pre .0) (c .before .before .before .before .before .before .before .before .before .before .before .args .p) (c .before .before .before .before .before .before .before .before .before .before .before .pre .1 .0) (c .before .before .before .before .before .before .before .before .before .before .before .pre .1 .1) (digit (c .before .before .before .before .before .before .before .before .before .before .before .args .text .now) (c .before .before .before .before .before .before .before .before .before .before .before .pre .0) (c .before .before .before .before .before .before .before .before .before .before .before .args .p) (c .before .before .before .before .before .before .before .before .before .before .before .pre .1 .0) (c .before .before .before .before .before .before .before .before .before .before .before .pre .1 .1) (c .before .before .before .before .before .before .before .before .if1 .left) (c .before .before .before .before .before .before .if2 .left)) (c .before .before .before .before .before .run-end .result) (c .before .before .before .before .before .run-end .ensures) (c .before .before .before .if3 .left)) (Mark (c .closed2 .result)) (c .closed2 .ensures)
+returns-4 c =
+    let start = c .before .before .before .before .before .before .before .before .before .before in
+    let a = atom (c .before .before .before .before .before) in
+    taken-closed (start .args .text .now) (start .args .p) (inside start) (a .digit) (start .args .end) (a .run) (a .short) (a .more) (a .ends (c .before .before .before .if3 .left)) (Mark (c .closed2 .result)) (c .closed2 .ensures)
 
 pub next-spec : {M : Type 1} → statement M
 next-spec =
@@ -90,11 +113,9 @@ next-spec =
     add-closed
     closed-requires
     returns-2
-    add-run-end
-    run-end-requires
     shared-slice-read-if3
+    add-t15
     add-t16
-    add-t17
     returns-3
     sub-closed-2
     add-closed-2
