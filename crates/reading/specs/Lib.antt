@@ -10,7 +10,6 @@ pub mod UnderwayLaws
 pub mod Numbers
 pub mod Accepting
 pub mod AcceptingLaws
-pub mod Room
 pub mod AddLaws
 pub mod Pass
 pub mod PassLaws

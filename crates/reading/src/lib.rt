@@ -6,7 +6,7 @@ ghost use Prim.Native.Nat.{ℕ, _%_, _<_};
 ghost use lib.Dec.{eqb, ltb};
 ghost use Rattle.calls.specs.Entry.{used};
 ghost use Rattle.calls.specs.Read.{readInto, readIn};
-ghost use Rattle.pool.specs.Pool.{Sound};
+ghost use Rattle.pool.specs.Pool.{frees, Sound};
 ghost use Rattle.scan.specs.Outcomes.{Sized};
 ghost use Rattle.table.specs.View.{holderCount, view, Table};
 ghost use Rattle.text.specs.Limits.{recordBytes, textMost};
@@ -20,13 +20,13 @@ pub mod build;
 pub mod digits;
 pub mod hook;
 pub mod next;
-pub mod room;
 
-// A sound table and a text of a right size.
-fn into(s: Shape, t: &mut [u32], h: usize, text: &[u8]) -> Outcome
+// A sound table, of which so many cells are free, and a text of a right size.
+fn into(s: Shape, t: &mut [u32], free: usize, h: usize, text: &[u8]) -> Outcome
     requires { ⌜ Table s (now t) ⌝ }
     requires { ⌜ h < holderCount s ⌝ }
     requires { ⌜ Sound (view s (now t)) ⌝ }
+    requires { ⌜ free ≡ frees (view s (now t) .cells) ⌝ }
     requires { ⌜ Sized (now text) ⌝ }
     ensures { λ r. ⌜ ((ws : List ℕ) → Reads (readInto (now (t .entry)) ws h (now (text .entry))) r (now (t .exit)) (used (now (t .entry)) ws)) ⌝ }
 {
@@ -37,7 +37,7 @@ fn into(s: Shape, t: &mut [u32], h: usize, text: &[u8]) -> Outcome
     if c.answer != Answer::DONE {
         return Outcome::refused(c.answer);
     }
-    if !room::enough(s, t, c.extent) {
+    if c.extent as usize > free {
         return Outcome::refused(Answer::NO_ROOM);
     }
     build::build(s, t, h, text);
@@ -74,8 +74,9 @@ pub fn read(t: &mut [u32], w: &mut [u32], h: u32, text: &[u8]) -> Outcome
     if text.len() == 0 {
         return Outcome::refused(Answer::END);
     }
-    if !sound::is_sound(s, t, w) {
+    let found = sound::examine(s, t, w);
+    if !found.sound {
         return Outcome::refused(Answer::UNSOUND);
     }
-    into(s, t, a, text)
+    into(s, t, found.free, a, text)
 }

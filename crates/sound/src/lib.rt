@@ -7,7 +7,7 @@ ghost use lib.ListN.{length};
 ghost use Rattle.pool.specs.Tally.{same};
 ghost use Rattle.pool.specs.Check.{chained, afterHolders};
 ghost use Rattle.table.specs.View.{view, Table};
-ghost use Rattle.sound.specs.Decided.{Decided};
+ghost use Rattle.sound.specs.Decided.{Decided, Examined};
 ghost use Rattle.sound.specs.Mirror.{Room, Follows, Stows, Refills, Counted, Copied, stateAt, Shown, Reached, Taking, ElementMet, Peeled};
 use table::Shape;
 
@@ -18,6 +18,12 @@ struct Peel {
     at: usize,
     top: usize,
     gone: usize,
+}
+
+// What the check finds: whether the table is sound, and how many cells are free.
+pub struct Found {
+    pub sound: bool,
+    pub free: usize,
 }
 
 fn both(a: bool, b: bool) -> bool
@@ -250,16 +256,27 @@ fn peel_all(s: Shape, t: &[u32], w: &mut [u32]) -> Peel
     e
 }
 
-// Whether the table is sound. The first 2 N words of the work space are 0 afterwards.
-pub fn is_sound(s: Shape, t: &[u32], w: &mut [u32]) -> bool
+// Looks at the whole table. The first 2 N words of the work space are 0 afterwards.
+pub fn examine(s: Shape, t: &[u32], w: &mut [u32]) -> Found
     requires { ⌜ Table s (now t) ⌝ }
     requires { ⌜ 2 * s .cells ≤ length (now w) ⌝ }
-    ensures { λ r. ⌜ Decided s (now (t .entry)) (now (w .entry)) (now (w .exit)) r ⌝ }
+    ensures { λ r. ⌜ Examined s (now (t .entry)) (now (w .entry)) (now (w .exit)) r ⌝ }
 {
     let n = s.cells;
     let free = copy_counts(s, t, w);
     let a = chain_holds(s, t, free);
     let e = peel_all(s, t, w);
     table::clear(w, 2 * n);
-    both(a, both(e.ok == 1, e.gone + free == n))
+    Found {
+        sound: both(a, both(e.ok == 1, e.gone + free == n)),
+        free,
+    }
+}
+
+pub fn is_sound(s: Shape, t: &[u32], w: &mut [u32]) -> bool
+    requires { ⌜ Table s (now t) ⌝ }
+    requires { ⌜ 2 * s .cells ≤ length (now w) ⌝ }
+    ensures { λ r. ⌜ Decided s (now (t .entry)) (now (w .entry)) (now (w .exit)) r ⌝ }
+{
+    examine(s, t, w).sound
 }

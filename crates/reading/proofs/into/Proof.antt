@@ -1,10 +1,15 @@
 -- `reading::into` meets its contract.
 use mathlib.Core.Path.{sym, _∙_}
-use borrow.Author.Tests.{not-true, not-false}
+use native.Mathlib.Omega.{arith}
 use borrow.Author.Needs.{needs}
-use Rattle.reading.specs.ReadLaws.{occupied, faulty, no-room, taken, room, reads}
+use Rattle.reading.specs.ReadLaws.{Scans, occupied, faulty, no-room, taken, room, reads}
 use Rattle.reading.proofs.into.Statement.{statement}
 use Rattle.reading.proofs.into.Tie as tie
+
+scans : (c : tie.After-scan) → Scans (c .before .before .before .before .before .before .args .s) (c .before .before .before .before .before .before .args .t .now) (c .before .before .before .before .before .before .args .h) (c .before .before .before .before .before .before .args .text .now) (c .scan .result)
+scans c =
+    let start = c .before .before .before .before .before .before in
+    record { table = start .pre .0; sized = start .pre .1 .1 .1 .1; null = sym (c .before .before .holder-of .ensures .0) ∙ c .before .if1 .left; told = c .scan .ensures }
 
 holder-of-requires : tie.Need-holder-of-requires
 holder-of-requires c κs = search needs
@@ -16,7 +21,9 @@ same-length : tie.Need-same-length
 same-length c = search needs
 
 returns : tie.Need-returns
-returns c = λ ws. occupied (c .before .before .before .before .before .before .args .s) (c .before .before .before .before .before .before .args .t .now) (c .before .before .before .before .before .before .pre .0) (c .before .before .before .before .before .before .args .h) (c .before .before .before .before .before .before .args .text .now) ws (c .refused .result) (λ q. c .before .if1 .taken (c .before .before .holder-of .ensures .0 ∙ q)) (c .refused .ensures)
+returns c =
+    let start = c .before .before .before .before .before .before in
+    λ ws. occupied (start .pre .0) (start .args .h) (start .args .text .now) ws (λ q. c .before .if1 .taken (c .before .before .holder-of .ensures .0 ∙ q)) (c .refused .ensures)
 
 scan-requires : tie.Need-scan-requires
 scan-requires c κs = search needs
@@ -28,10 +35,10 @@ same-length-2 : tie.Need-same-length-2
 same-length-2 c = search needs
 
 returns-2 : tie.Need-returns-2
-returns-2 c = λ ws. faulty (c .before .before .before .before .before .before .before .before .before .args .s) (c .before .before .before .before .before .before .before .before .before .args .t .now) (c .before .before .before .before .before .before .before .before .before .pre .0) (c .before .before .before .before .before .before .before .before .before .args .h) (c .before .before .before .before .before .before .before .before .before .args .text .now) (c .before .before .before .before .before .before .before .before .before .pre .1 .1 .1) (sym (c .before .before .before .before .before .holder-of .ensures .0) ∙ c .before .before .before .before .if1 .left) (c .before .before .before .scan .result) (c .before .before .before .scan .ensures) ws (c .refused2 .result) (c .before .if2 .taken) (c .refused2 .ensures)
+returns-2 c = λ ws. faulty (scans (c .before .before .before)) ws (c .before .if2 .taken) (c .refused2 .ensures)
 
-enough-requires : tie.Need-enough-requires
-enough-requires c κs = search needs
+cast-if3 : tie.Need-cast-if3
+cast-if3 c = search needs
 
 refused-requires-3 : tie.Need-refused-requires-3
 refused-requires-3 c κs = search needs
@@ -40,10 +47,16 @@ same-length-3 : tie.Need-same-length-3
 same-length-3 c = search needs
 
 returns-3 : tie.Need-returns-3
-returns-3 c = λ ws. no-room (c .before .before .before .before .before .before .before .before .before .before .before .before .args .s) (c .before .before .before .before .before .before .before .before .before .before .before .before .args .t .now) (c .before .before .before .before .before .before .before .before .before .before .before .before .pre .0) (c .before .before .before .before .before .before .before .before .before .before .before .before .args .h) (c .before .before .before .before .before .before .before .before .before .before .before .before .args .text .now) (c .before .before .before .before .before .before .before .before .before .before .before .before .pre .1 .1 .1) (sym (c .before .before .before .before .before .before .before .before .holder-of .ensures .0) ∙ c .before .before .before .before .before .before .before .if1 .left) (c .before .before .before .before .before .before .scan .result) (c .before .before .before .before .before .before .scan .ensures) (c .before .before .before .before .if2 .left) ws (c .refused3 .result) (sym (c .before .before .enough .ensures) ∙ not-true _ (c .before .if3 .taken)) (c .refused3 .ensures)
+returns-3 c =
+    let free = c .before .before .before .before .before .before .before .before .before .before .before .pre .1 .1 .1 .0 in
+    λ ws. no-room (scans (c .before .before .before .before .before)) (c .before .before .before .if2 .left) ws (omega (arith, c .before .if3 .taken, free)) (c .refused3 .ensures)
 
 build-requires : tie.Need-build-requires
-build-requires c κs = (c .before .before .before .before .before .before .before .before .before .before .before .before .pre .0, (c .before .before .before .before .before .before .before .before .before .before .before .before .pre .1 .0, (c .before .before .before .before .before .before .before .before .before .before .before .before .pre .1 .1 .0, (taken (c .before .before .before .before .before .before .before .before .before .before .before .before .args .s) (c .before .before .before .before .before .before .before .before .before .before .before .before .args .t .now) (c .before .before .before .before .before .before .before .before .before .before .before .before .pre .0) (c .before .before .before .before .before .before .before .before .before .before .before .before .args .h) (c .before .before .before .before .before .before .before .before .before .before .before .before .args .text .now) (c .before .before .before .before .before .before .before .before .before .before .before .before .pre .1 .1 .1) (sym (c .before .before .before .before .before .before .before .before .holder-of .ensures .0) ∙ c .before .before .before .before .before .before .before .if1 .left) (c .before .before .before .before .before .before .scan .result) (c .before .before .before .before .before .before .scan .ensures) (c .before .before .before .before .if2 .left), room (c .before .before .before .before .before .before .before .before .before .before .before .before .args .s) (c .before .before .before .before .before .before .before .before .before .before .before .before .args .t .now) (c .before .before .before .before .before .before .before .before .before .before .before .before .pre .0) (c .before .before .before .before .before .before .before .before .before .before .before .before .args .h) (c .before .before .before .before .before .before .before .before .before .before .before .before .args .text .now) (c .before .before .before .before .before .before .before .before .before .before .before .before .pre .1 .1 .1) (sym (c .before .before .before .before .before .before .before .before .holder-of .ensures .0) ∙ c .before .before .before .before .before .before .before .if1 .left) (c .before .before .before .before .before .before .scan .result) (c .before .before .before .before .before .before .scan .ensures) (c .before .before .before .before .if2 .left) (sym (c .before .before .enough .ensures) ∙ not-false _ (c .before .if3 .left))))))
+build-requires c κs =
+    let start = c .before .before .before .before .before .before .before .before .before .before .before in
+    let k = scans (c .before .before .before .before .before) in
+    let well = c .before .before .before .if2 .left in
+    (start .pre .0, (start .pre .1 .0, (start .pre .1 .1 .0, (taken k well, room k well (omega (arith, c .before .if3 .left, start .pre .1 .1 .1 .0))))))
 
 done-requires : tie.Need-done-requires
 done-requires c κs = search needs
@@ -52,7 +65,9 @@ same-length-4 : tie.Need-same-length-4
 same-length-4 c = search needs
 
 returns-4 : tie.Need-returns-4
-returns-4 c = λ ws. reads (c .before .before .before .before .before .before .before .before .before .before .before .before .before .before .before .before .args .s) (c .before .before .before .before .before .before .before .before .before .before .before .before .before .before .before .before .args .t .now) (c .before .before .before .before .before .before .before .before .before .before .before .before .before .before .before .before .pre .0) (c .before .before .before .before .before .before .before .before .before .before .before .before .before .before .before .before .args .h) (c .before .before .before .before .before .before .before .before .before .before .before .before .before .before .before .before .args .text .now) (c .before .before .before .before .before .before .before .before .before .before .before .before .before .before .before .before .pre .1 .1 .1) (sym (c .before .before .before .before .before .before .before .before .before .before .before .before .holder-of .ensures .0) ∙ c .before .before .before .before .before .before .before .before .before .before .before .if1 .left) (c .before .before .before .before .before .before .before .before .before .before .scan .result) (c .before .before .before .before .before .before .before .before .before .before .scan .ensures) (c .before .before .before .before .before .before .before .before .if2 .left) (sym (c .before .before .before .before .before .before .enough .ensures) ∙ not-false _ (c .before .before .before .before .before .if3 .left)) ws _ (c .done .result) (c .before .before .before .build .ensures) (c .done .ensures)
+returns-4 c =
+    let free = c .before .before .before .before .before .before .before .before .before .before .before .before .before .before .before .pre .1 .1 .1 .0 in
+    λ ws. reads (scans (c .before .before .before .before .before .before .before .before .before)) (c .before .before .before .before .before .before .before .if2 .left) (omega (arith, c .before .before .before .before .before .if3 .left, free)) ws _ (c .before .before .before .build .ensures) (c .done .ensures)
 
 pub into-spec : {M : Type 1} → statement M
 into-spec =
@@ -66,7 +81,7 @@ into-spec =
     refused-requires-2
     same-length-2
     returns-2
-    enough-requires
+    cast-if3
     refused-requires-3
     same-length-3
     returns-3

@@ -3,9 +3,19 @@ use mathlib.Core.Path.{sym, _∙_}
 use native.Mathlib.Omega.{arith}
 use borrow.Author.Tests.{not-true, not-false}
 use borrow.Author.Needs.{needs}
-use Rattle.reading.specs.ReadLaws.{its-table, sized, bad-table, bad-work, no-holder, bad-text, no-text, not-sound, all-passed}
+use Rattle.table.specs.View.{shape, Table}
+use Rattle.reading.specs.ReadLaws.{Entered, Lent, its-table, sized, bad-table, bad-work, no-holder, bad-text, no-text, not-sound, all-passed}
 use Rattle.reading.proofs.read.Statement.{statement}
 use Rattle.reading.proofs.read.Tie as tie
+
+the-table : (c : tie.Else2) → Table (shape (c .before .before .cells-of .result)) (c .before .before .before .before .before .before .before .args .t .now)
+the-table c = its-table (c .before .before .before .before .before .before .before .args .t .now) (c .before .before .cells-of .result) (c .before .before .cells-of .ensures) (c .before .if1 .left)
+
+entered : (c : tie.Else3) → Entered (c .before .before .before .before .before .before .before .before .before .args .t .now) (c .before .before .before .before .before .before .before .before .before .args .w .now) (c .before .before .before .before .before .before .before .before .before .args .h) (c .before .before .before .before .cells-of .result)
+entered c = record { cells = c .before .before .before .before .cells-of .ensures; some = c .before .before .before .if1 .left; long = c .before .before .if2 .left; held = omega (arith, c .if3 .left, c .before .holders .ensures) }
+
+lent : (c : tie.Else5) → Lent (c .before .before .before .before .before .before .before .before .before .before .before .before .args .t .now) (c .before .before .before .before .before .before .before .before .before .before .before .before .args .w .now) (c .before .before .before .before .before .before .before .before .before .before .before .before .args .h) (c .before .before .before .before .before .before .before .before .before .before .before .before .args .text .now) (c .before .before .before .before .before .before .before .cells-of .result)
+lent c = record { entered = entered (c .before .before .before); whole = sym (c .before .before .wrong-size .ensures) ∙ c .before .if4 .left; text = c .if5 .left }
 
 cells-of-requires : tie.Need-cells-of-requires
 cells-of-requires c κs = search needs
@@ -17,10 +27,12 @@ same-length : tie.Need-same-length
 same-length c = search needs
 
 returns : tie.Need-returns
-returns c = bad-table (c .before .before .before .before .before .before .before .args .t .now) (c .before .before .before .before .before .before .before .args .w .now) (c .before .before .before .before .before .before .before .args .h) (c .before .before .before .before .before .before .before .args .text .now) (c .refused .result) (c .before .before .cells-of .result) (c .before .before .cells-of .ensures) (c .before .if1 .taken) (c .refused .ensures)
+returns c =
+    let a = c .before .before .before .before .before .before .before .args in
+    bad-table (a .t .now) (a .w .now) (a .h) (a .text .now) (c .before .before .cells-of .ensures) (c .before .if1 .taken) (c .refused .ensures)
 
 mul-if2 : tie.Need-mul-if2
-mul-if2 c = omega (arith, its-table (c .before .before .before .before .before .before .args .t .now) (c .before .cells-of .result) (c .before .cells-of .ensures) (c .if1 .left) .few)
+mul-if2 c = let few = its-table (c .before .before .before .before .before .before .args .t .now) (c .before .cells-of .result) (c .before .cells-of .ensures) (c .if1 .left) .few in omega arith
 
 refused-requires-2 : tie.Need-refused-requires-2
 refused-requires-2 c κs = search needs
@@ -29,7 +41,9 @@ same-length-2 : tie.Need-same-length-2
 same-length-2 c = search needs
 
 returns-2 : tie.Need-returns-2
-returns-2 c = bad-work (c .before .before .before .before .before .before .before .before .args .t .now) (c .before .before .before .before .before .before .before .before .args .w .now) (c .before .before .before .before .before .before .before .before .args .h) (c .before .before .before .before .before .before .before .before .args .text .now) (c .refused2 .result) (c .before .before .before .cells-of .result) (c .before .before .before .cells-of .ensures) (c .before .before .if1 .left) (c .before .if2 .taken) (c .refused2 .ensures)
+returns-2 c =
+    let a = c .before .before .before .before .before .before .before .before .args in
+    bad-work (a .t .now) (a .w .now) (a .h) (a .text .now) (c .before .before .before .cells-of .ensures) (c .before .before .if1 .left) (c .before .if2 .taken) (c .refused2 .ensures)
 
 holders-requires : tie.Need-holders-requires
 holders-requires c κs = search needs
@@ -41,7 +55,9 @@ same-length-3 : tie.Need-same-length-3
 same-length-3 c = search needs
 
 returns-3 : tie.Need-returns-3
-returns-3 c = no-holder (c .before .before .before .before .before .before .before .before .before .before .args .t .now) (c .before .before .before .before .before .before .before .before .before .before .args .w .now) (c .before .before .before .before .before .before .before .before .before .before .args .h) (c .before .before .before .before .before .before .before .before .before .before .args .text .now) (c .refused3 .result) (c .before .before .before .before .before .cells-of .result) (c .before .before .before .before .before .cells-of .ensures) (c .before .before .before .before .if1 .left) (c .before .before .before .if2 .left) (omega (arith, c .before .if3 .taken, c .before .before .holders .ensures)) (c .refused3 .ensures)
+returns-3 c =
+    let a = c .before .before .before .before .before .before .before .before .before .before .args in
+    no-holder (a .t .now) (a .w .now) (a .h) (a .text .now) (c .before .before .before .before .before .cells-of .ensures) (c .before .before .before .before .if1 .left) (c .before .before .before .if2 .left) (omega (arith, c .before .if3 .taken, c .before .before .holders .ensures)) (c .refused3 .ensures)
 
 wrong-size-requires : tie.Need-wrong-size-requires
 wrong-size-requires c κs = search needs
@@ -53,7 +69,7 @@ same-length-4 : tie.Need-same-length-4
 same-length-4 c = search needs
 
 returns-4 : tie.Need-returns-4
-returns-4 c = bad-text (c .before .before .before .before .before .before .before .before .before .before .before .before .args .t .now) (c .before .before .before .before .before .before .before .before .before .before .before .before .args .w .now) (c .before .before .before .before .before .before .before .before .before .before .before .before .args .h) (c .before .before .before .before .before .before .before .before .before .before .before .before .args .text .now) (c .refused4 .result) (c .before .before .before .before .before .before .before .cells-of .result) (c .before .before .before .before .before .before .before .cells-of .ensures) (c .before .before .before .before .before .before .if1 .left) (c .before .before .before .before .before .if2 .left) (omega (arith, c .before .before .before .if3 .left, c .before .before .before .before .holders .ensures)) (sym (c .before .before .wrong-size .ensures) ∙ c .before .if4 .taken) (c .refused4 .ensures)
+returns-4 c = bad-text (entered (c .before .before .before)) (c .before .before .before .before .before .before .before .before .before .before .before .before .args .text .now) (sym (c .before .before .wrong-size .ensures) ∙ c .before .if4 .taken) (c .refused4 .ensures)
 
 refused-requires-5 : tie.Need-refused-requires-5
 refused-requires-5 c κs = search needs
@@ -62,10 +78,10 @@ same-length-5 : tie.Need-same-length-5
 same-length-5 c = search needs
 
 returns-5 : tie.Need-returns-5
-returns-5 c = no-text (c .before .before .before .before .before .before .before .before .before .before .before .before .before .args .t .now) (c .before .before .before .before .before .before .before .before .before .before .before .before .before .args .w .now) (c .before .before .before .before .before .before .before .before .before .before .before .before .before .args .h) (c .before .before .before .before .before .before .before .before .before .before .before .before .before .args .text .now) (c .refused5 .result) (c .before .before .before .before .before .before .before .before .cells-of .result) (c .before .before .before .before .before .before .before .before .cells-of .ensures) (c .before .before .before .before .before .before .before .if1 .left) (c .before .before .before .before .before .before .if2 .left) (omega (arith, c .before .before .before .before .if3 .left, c .before .before .before .before .before .holders .ensures)) (sym (c .before .before .before .wrong-size .ensures) ∙ c .before .before .if4 .left) (c .before .if5 .taken) (c .refused5 .ensures)
+returns-5 c = no-text (entered (c .before .before .before .before)) (c .before .before .before .before .before .before .before .before .before .before .before .before .before .args .text .now) (sym (c .before .before .before .wrong-size .ensures) ∙ c .before .before .if4 .left) (c .before .if5 .taken) (c .refused5 .ensures)
 
-is-sound-requires : tie.Need-is-sound-requires
-is-sound-requires c κs = (its-table (c .before .before .before .before .before .before .before .before .before .before .before .before .before .before .args .t .now) (c .before .before .before .before .before .before .before .before .before .cells-of .result) (c .before .before .before .before .before .before .before .before .before .cells-of .ensures) (c .before .before .before .before .before .before .before .before .if1 .left), c .before .before .before .before .before .before .before .if2 .left)
+examine-requires : tie.Need-examine-requires
+examine-requires c κs = (the-table (c .before .before .before .before .before .before .before), c .before .before .before .before .before .before .before .if2 .left)
 
 refused-requires-6 : tie.Need-refused-requires-6
 refused-requires-6 c κs = search needs
@@ -77,10 +93,15 @@ same-length-7 : tie.Need-same-length-7
 same-length-7 c = search needs
 
 returns-6 : tie.Need-returns-6
-returns-6 c = not-sound (c .before .before .before .before .before .before .before .before .before .before .before .before .before .before .before .before .before .before .before .args .t .now) (c .before .before .before .before .before .before .before .before .before .before .before .before .before .before .before .before .before .before .before .args .w .now) (c .before .before .before .before .before .before .before .before .before .before .before .before .before .before .before .before .before .before .before .args .h) (c .before .before .before .before .before .before .before .before .before .before .before .before .before .before .before .before .before .before .before .args .text .now) (c .refused6 .result) (c .before .before .before .before .before .before .before .before .before .before .before .before .before .before .cells-of .result) (c .before .before .before .before .before .before .before .before .before .before .before .before .before .before .cells-of .ensures) (c .before .before .before .before .before .before .before .before .before .before .before .before .before .if1 .left) (c .before .before .before .before .before .before .before .before .before .before .before .before .if2 .left) (omega (arith, c .before .before .before .before .before .before .before .before .before .before .if3 .left, c .before .before .before .before .before .before .before .before .before .before .before .holders .ensures)) (sym (c .before .before .before .before .before .before .before .before .before .wrong-size .ensures) ∙ c .before .before .before .before .before .before .before .before .if4 .left) (c .before .before .before .before .before .before .before .if5 .left) _ (c .before .before .before .before .is-sound .ensures .work) (sym (c .before .before .before .before .is-sound .ensures .answer) ∙ not-true _ (c .before .if6 .taken)) (c .refused6 .ensures)
+returns-6 c =
+    let found = c .before .before .before .before .before .examine .ensures .decided in
+    not-sound (lent (c .before .before .before .before .before .before .before .before)) (found .work) (sym (found .answer) ∙ not-true _ (c .before .if6 .taken)) (c .refused6 .ensures)
 
 into-requires : tie.Need-into-requires
-into-requires c κs = (its-table (c .before .before .before .before .before .before .before .before .before .before .before .before .before .before .before .before .before .before .before .args .t .now) (c .before .before .before .before .before .before .before .before .before .before .before .before .before .before .cells-of .result) (c .before .before .before .before .before .before .before .before .before .before .before .before .before .before .cells-of .ensures) (c .before .before .before .before .before .before .before .before .before .before .before .before .before .if1 .left), (omega (arith, c .before .before .before .before .before .before .before .before .before .before .if3 .left, c .before .before .before .before .before .before .before .before .before .before .before .holders .ensures), (c .before .before .before .before .is-sound .ensures .sound .0 (not-false _ (c .before .if6 .left)), sized (c .before .before .before .before .before .before .before .before .before .before .before .before .before .before .before .before .before .before .before .args .text .now) (sym (c .before .before .before .before .before .before .before .before .before .wrong-size .ensures) ∙ c .before .before .before .before .before .before .before .before .if4 .left) (c .before .before .before .before .before .before .before .if5 .left))))
+into-requires c κs =
+    let found = c .before .before .before .before .before .examine .ensures in
+    let k = lent (c .before .before .before .before .before .before .before .before) in
+    (the-table (c .before .before .before .before .before .before .before .before .before .before .before .before .before), (omega (arith, k .entered .held, k .entered .cells), (found .decided .sound .0 (not-false _ (c .before .if6 .left)), (found .free, sized (c .before .before .before .before .before .before .before .before .before .before .before .before .before .before .before .before .before .before .before .before .args .text .now) (k .whole) (k .text)))))
 
 same-length-8 : tie.Need-same-length-8
 same-length-8 c = search needs
@@ -89,7 +110,9 @@ same-length-9 : tie.Need-same-length-9
 same-length-9 c = search needs
 
 returns-7 : tie.Need-returns-7
-returns-7 c = all-passed (c .before .before .before .before .before .before .before .before .before .before .before .before .before .before .before .before .before .before .before .before .before .before .args .t .now) (c .before .before .before .before .before .before .before .before .before .before .before .before .before .before .before .before .before .before .before .before .before .before .args .w .now) (c .before .before .before .before .before .before .before .before .before .before .before .before .before .before .before .before .before .before .before .before .before .before .args .h) (c .before .before .before .before .before .before .before .before .before .before .before .before .before .before .before .before .before .before .before .before .before .before .args .text .now) (c .before .before .into .result) (c .before .before .before .before .before .before .before .before .before .before .before .before .before .before .before .before .before .cells-of .result) (c .before .before .before .before .before .before .before .before .before .before .before .before .before .before .before .before .before .cells-of .ensures) (c .before .before .before .before .before .before .before .before .before .before .before .before .before .before .before .before .if1 .left) (c .before .before .before .before .before .before .before .before .before .before .before .before .before .before .before .if2 .left) (omega (arith, c .before .before .before .before .before .before .before .before .before .before .before .before .before .if3 .left, c .before .before .before .before .before .before .before .before .before .before .before .before .before .before .holders .ensures)) (sym (c .before .before .before .before .before .before .before .before .before .before .before .before .wrong-size .ensures) ∙ c .before .before .before .before .before .before .before .before .before .before .before .if4 .left) (c .before .before .before .before .before .before .before .before .before .before .if5 .left) _ (c .before .before .before .before .before .before .before .is-sound .ensures .work) (sym (c .before .before .before .before .before .before .before .is-sound .ensures .answer) ∙ not-false _ (c .before .before .before .before .if6 .left)) _ (c .before .before .into .ensures (c .before .before .before .before .before .before .before .before .before .before .before .before .before .before .before .before .before .before .before .before .before .before .args .w .now))
+returns-7 c =
+    let found = c .before .before .before .before .before .before .before .before .examine .ensures .decided in
+    all-passed (lent (c .before .before .before .before .before .before .before .before .before .before .before)) (found .work) (sym (found .answer) ∙ not-false _ (c .before .before .before .before .if6 .left)) (c .before .before .into .ensures (c .before .before .before .before .before .before .before .before .before .before .before .before .before .before .before .before .before .before .before .before .before .before .before .args .w .now))
 
 pub read-spec : {M : Type 1} → statement M
 read-spec =
@@ -114,7 +137,7 @@ read-spec =
     refused-requires-5
     same-length-5
     returns-5
-    is-sound-requires
+    examine-requires
     refused-requires-6
     same-length-6
     same-length-7

@@ -21,10 +21,11 @@ loop-holds c = (c .before .pre .0, c .before .pre .1 .1 .0 .2, omega arith, λ q
 
 hang-requires : tie.Need-hang-requires Inv-loop μ-loop
 hang-requires c κs =
-    let y = c .before .before .before .before .pre .1 .1 .1 in
-    let v = c .before .before .loop .inv in
-    let a = v .3 (y .goal) (y .later) (y .now) .on (omega (arith, c .before .loop-test .taken)) in
-    (v .0, (c .before .before .before .before .pre .1 .0, (omega (arith, hooked a, v .0 .measured), omega arith)))
+    let start = c .before .before .before .before in
+    let turn = c .before .before .loop in
+    let y = start .pre .1 .1 .1 in
+    let a = turn .inv .3 (y .goal) (y .later) (y .now) .on (omega (arith, c .before .loop-test .taken)) in
+    (turn .inv .0, (start .pre .1 .0, (omega (arith, hooked a, turn .inv .0 .measured), omega arith)))
 
 sub-d : tie.Need-sub-d Inv-loop μ-loop
 sub-d c = search needs
@@ -47,8 +48,13 @@ loop-less c = search needs
 loop-again : tie.Need-loop-again Inv-loop μ-loop
 loop-again c =
     let a = c .before .before .before .before .before .before .before .before .before .args in
-    let v = c .before .before .before .before .before .before .before .loop .inv in
-    (c .before .before .before .before .hang .ensures .table, omega arith, omega (arith, v .2), rw (c .after .ensures) (shutting-next (view (a .s) (a .t .now)) (a .h) (a .k) (c .before .before .before .before .before .before .before .loop .at) _ (a .from - a .to) (a .lists .now) (c .before .before .before .before .before .before .before .loop .d) (a .to) (c .before .before .before .before .before .before .loop-test .taken) (c .before .before .before .before .hang .ensures .is) (v .3)))
+    let turn = c .before .before .before .before .before .before .before .loop in
+    let hung = c .before .before .before .before .hang .ensures in (
+      hung .table,
+      omega arith,
+      omega (arith, turn .inv .2),
+      rw (c .after .ensures) (shutting-next (view (a .s) (a .t .now)) (a .h) (a .k) (turn .at) _ (a .from - a .to) (a .lists .now) (turn .d) (a .to) (c .before .before .before .before .before .before .loop-test .taken) (hung .is) (turn .inv .3)),
+    )
 
 same-length : tie.Need-same-length Inv-loop μ-loop
 same-length c = c .before .loop .inv .0 .sized ∙ sym (c .before .before .before .pre .0 .sized)
@@ -56,8 +62,8 @@ same-length c = c .before .loop .inv .0 .sized ∙ sym (c .before .before .befor
 returns : tie.Need-returns Inv-loop μ-loop
 returns c =
     let a = c .before .before .before .args in
-    let v = c .before .loop .inv in
-    record { table = v .0; after = shutting-done (view (a .s) (a .t .now)) _ (a .h) (a .k) (c .before .loop .at) _ (a .from - a .to) (a .lists .now) (c .before .loop .d) (a .to) (omega (arith, v .1, c .loop-test .left)) (v .3) }
+    let turn = c .before .loop in
+    record { table = turn .inv .0; after = shutting-done (view (a .s) (a .t .now)) _ (a .h) (a .k) (turn .at) _ (a .from - a .to) (a .lists .now) (turn .d) (a .to) (omega (arith, turn .inv .1, c .loop-test .left)) (turn .inv .3) }
 
 pub shut-spec : {M : Type 1} → statement M
 shut-spec =

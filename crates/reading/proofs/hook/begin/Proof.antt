@@ -19,14 +19,20 @@ hang-requires c κs = search needs
 
 new-cell-requires : tie.Need-new-cell-requires
 new-cell-requires c κs =
-    let c0 = c .before .before .before .before .before .before .before .before in
-    (c .before .before .before .hang .ensures .table, (subst (Spare (c0 .args .s)) (sym (c .before .before .before .hang .ensures .is ∙ ap (λ (f : ℕ). hang (linkOf (c0 .args .k)) (c0 .args .h) f (view (c0 .args .s) (c0 .args .t .now))) (c .before .before .before .before .before .free-head .ensures .0))) (c0 .pre .1 .1 .1 .1), (c0 .pre .1 .1 .1 .0, omega arith)))
+    let start = c .before .before .before .before .before .before .before .before in
+    let a = start .args in
+    let hung = c .before .before .before .hang .ensures in (
+      hung .table,
+      (subst (Spare (a .s)) (sym (hung .is ∙ ap (λ (f : ℕ). hang (linkOf (a .k)) (a .h) f (view (a .s) (a .t .now))) (c .before .before .before .before .before .free-head .ensures .0))) (start .pre .1 .1 .1 .1), (start .pre .1 .1 .1 .0, omega arith)),
+    )
 
 same-length : tie.Need-same-length
 same-length c = search needs
 
 returns : tie.Need-returns
-returns c = new-begun (c .before .before .before .before .before .before .before .before .before .before .before .args .t .now) (linkOf (c .before .before .before .before .before .before .before .before .before .before .before .args .k)) (c .before .before .before .before .before .before .before .before .before .before .before .args .h) (c .before .before .before .before .before .before .before .before .before .before .before .args .kind) (c .before .before .before .before .before .before .before .before .before .before .before .args .elem) (c .before .before .before .before .before .before .before .before .free-head .ensures .0) (c .before .before .before .before .before .before .hang .ensures) (c .before .before .new-cell .ensures)
+returns c =
+    let a = c .before .before .before .before .before .before .before .before .before .before .before .args in
+    new-begun (a .t .now) (linkOf (a .k)) (a .h) (a .kind) (a .elem) (c .before .before .before .before .before .before .before .before .free-head .ensures .0) (c .before .before .before .before .before .before .hang .ensures) (c .before .before .new-cell .ensures)
 
 pub begin-spec : {M : Type 1} → statement M
 begin-spec =

@@ -25,19 +25,25 @@ same-length : tie.Need-same-length
 same-length c = search needs
 
 returns : tie.Need-returns
-returns c = said (c .before .before .set-holder .ensures) (ap (λ (l : Link). hang l (c .before .before .before .before .before .before .before .args .h) (c .before .before .before .before .before .before .before .args .c) (view (c .before .before .before .before .before .before .before .args .s) (c .before .before .before .before .before .before .before .args .t .now))) (sym (is-held (c .before .before .before .before .before .before .before .args .k) (c .before .before .before .before .if1 .taken))))
+returns c =
+    let a = c .before .before .before .before .before .before .before .args in
+    said (c .before .before .set-holder .ensures) (ap (λ (l : Link). hang l (a .h) (a .c) (view (a .s) (a .t .now))) (sym (is-held (a .k) (c .before .before .before .before .if1 .taken))))
 
 same-length-2 : tie.Need-same-length-2
 same-length-2 c = search needs
 
 returns-2 : tie.Need-returns-2
-returns-2 c = said (c .before .before .set-next .ensures) (ap (λ (l : Link). hang l (c .before .before .before .before .before .before .before .before .before .args .h) (c .before .before .before .before .before .before .before .before .before .args .c) (view (c .before .before .before .before .before .before .before .before .before .args .s) (c .before .before .before .before .before .before .before .before .before .args .t .now))) (sym (is-after (c .before .before .before .before .before .before .before .before .before .args .k) (c .before .before .before .before .before .before .if1 .left) (c .before .before .before .before .if2 .taken))))
+returns-2 c =
+    let a = c .before .before .before .before .before .before .before .before .before .args in
+    said (c .before .before .set-next .ensures) (ap (λ (l : Link). hang l (a .h) (a .c) (view (a .s) (a .t .now))) (sym (is-after (a .k) (c .before .before .before .before .before .before .if1 .left) (c .before .before .before .before .if2 .taken))))
 
 same-length-3 : tie.Need-same-length-3
 same-length-3 c = search needs
 
 returns-3 : tie.Need-returns-3
-returns-3 c = said (c .before .before .set-elem .ensures) (ap (λ (l : Link). hang l (c .before .before .before .before .before .before .before .before .before .args .h) (c .before .before .before .before .before .before .before .before .before .args .c) (view (c .before .before .before .before .before .before .before .before .before .args .s) (c .before .before .before .before .before .before .before .before .before .args .t .now))) (sym (is-inside (c .before .before .before .before .before .before .before .before .before .args .k) (c .before .before .before .before .before .before .if1 .left) (c .before .before .before .before .if2 .left))))
+returns-3 c =
+    let a = c .before .before .before .before .before .before .before .before .before .args in
+    said (c .before .before .set-elem .ensures) (ap (λ (l : Link). hang l (a .h) (a .c) (view (a .s) (a .t .now))) (sym (is-inside (a .k) (c .before .before .before .before .before .before .if1 .left) (c .before .before .before .before .if2 .left))))
 
 pub hang-spec : {M : Type 1} → statement M
 hang-spec =

@@ -1,11 +1,11 @@
--- `sound::is_sound` meets its contract.
+-- `sound::examine` meets its contract.
 use native.Mathlib.Omega.{arith}
 use Rattle.table.specs.View.{view}
 use Rattle.sound.specs.PeelLaws.{gone-fits}
 use Rattle.sound.specs.DecidedLaws.{frees-few, decided}
 use borrow.Author.Needs.{needs}
-use Rattle.sound.proofs.is_sound.Statement.{statement}
-use Rattle.sound.proofs.is_sound.Tie as tie
+use Rattle.sound.proofs.examine.Statement.{statement}
+use Rattle.sound.proofs.examine.Tie as tie
 
 copy-counts-requires : tie.Need-copy-counts-requires
 copy-counts-requires c κs = search needs
@@ -49,11 +49,14 @@ returns c =
     let k = h .before .before .before in
     let c0 = k .before .before .before .before in
     let a = c0 .args in
-    decided (a .s) (a .t .now) (a .w .now) _ _ _ (k .copy-counts .result) (p .peel-all .result) (h .chain-holds .result) (d .both .result) (c .both2 .result) (c0 .pre .0 .measured)
-    (k .copy-counts .ensures) (p .peel-all .ensures) (h .chain-holds .ensures) (d .both .ensures) (c .both2 .ensures) (z .clear .ensures)
+    record {
+      decided = decided (a .s) (a .t .now) (a .w .now) _ _ _ (k .copy-counts .result) (p .peel-all .result) (h .chain-holds .result) (d .both .result) (c .both2 .result) (c0 .pre .0 .measured)
+          (k .copy-counts .ensures) (p .peel-all .ensures) (h .chain-holds .ensures) (d .both .ensures) (c .both2 .ensures) (z .clear .ensures);
+      free = k .copy-counts .ensures .number;
+    }
 
-pub is-sound-spec : {M : Type 1} → statement M
-is-sound-spec =
+pub examine-spec : {M : Type 1} → statement M
+examine-spec =
     tie.close
     (tie.spec
     copy-counts-requires
