@@ -4,14 +4,18 @@ use mathlib.Core.Logic.{inl}
 use mathlib.Core.List.{List, [], _∷_, _++_}
 use Prim.Native.Nat.{ℕ}
 use native.Mathlib.Omega.{arith}
-use lib.ListN.{length, replicate}
-use Rattle.pool.specs.Operations.{copy, cinv}
+use lib.ListN.{length, getD, replicate}
+use Rattle.lists.specs.Lst.{extent}
+use Rattle.pool.specs.Operations.{copy, cinv, load, read}
 use Rattle.pool.specs.Script.{BORROW, Operation}
+use Rattle.text.specs.Marks.{listIn}
 use Rattle.text.specs.Text.{scanned, verdict}
+use Rattle.setup.specs.SetUp.{setUp}
+use Rattle.calls.specs.Read.{readIn}
 use Rattle.promises.specs.Demand1.{RunWork, RefusedCheck}
-use Rattle.promises.specs.Cells.{BorrowShares}
+use Rattle.promises.specs.Cells.{BorrowShares, ReadingUsesItsCells}
 use Rattle.promises.specs.Demand2.{SetUpGives, RestGives}
-use Rattle.promises.specs.WrongEngines.{setsUpDirty, spoilsWork, countsRefused, losesRest, copying}
+use Rattle.promises.specs.WrongEngines.{setsUpDirty, spoilsWork, countsRefused, losesRest, copying, loadLate, takesLate}
 use Rattle.promises.specs.Computed.{computed}
 use Rattle.promises.specs.Refuted.{zeros, prefix, two}
 
@@ -47,4 +51,13 @@ copying-refuted d =
     let t = copying .run two (zeros 4) (prefix 0 5) (zeros 2) .table in
     let o : Operation = record { code = BORROW; a = 0; b = 1; v = 0 } in
     let e : _≡_ {A = ℕ} 2 1 = d t (zeros 4) (zeros 2) o refl refl .0 in
+    omega arith
+
+-- ((1),2) in three cells: the element of the first is the second, where the late reader has the third
+pub takes-late : ReadingUsesItsCells takesLate → ⊥
+unfolding computed readIn verdict scanned listIn extent load read loadLate
+takes-late d =
+    let three = setUp (zeros 78) 3 .table in
+    let xs : List ℕ = 40 ∷ 40 ∷ 49 ∷ 41 ∷ 44 ∷ 50 ∷ 41 ∷ replicate 65 32 in
+    let e : _≡_ {A = ℕ} 3 2 = ap (λ (us : List ℕ). getD us 67 0) (d three (zeros 6) 0 xs refl) in
     omega arith

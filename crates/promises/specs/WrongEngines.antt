@@ -6,18 +6,20 @@ use Prim.Native.Nat.{ℕ, zero, suc, _+_, _-_}
 use lib.Dec.{eqb, ltb}
 use lib.ListN.{length, getD, set, take}
 use Rattle.answers.specs.Answers.{DONE, TABLE-SIZE, WORK-SPACE, SCRIPT, RESULTS, UNSOUND, SAME, SHARED, NO-ROOM}
+use Rattle.lists.specs.Lst.{Lst, nil, atom, list}
 use Rattle.pool.specs.Tally.{occ}
-use Rattle.pool.specs.Pool.{Pool, countOf, nextOf, setCount, holder, frees}
+use Rattle.pool.specs.Pool.{Cell, Pool, put, countOf, nextOf, setCount, holder, frees}
 use Rattle.pool.specs.Held.{into}
 use Rattle.pool.specs.Erase.{Dropping, step, total}
-use Rattle.pool.specs.Operations.{decap, inv}
+use Rattle.pool.specs.Operations.{Made, decap, inv}
 use Rattle.pool.specs.Check.{check, chained}
 use Rattle.pool.specs.Script.{PFA, DECAP, BORROW, ERASE, INV, CINV, CONC, Operation, Effect, Run, refusal, effect, tellsFirst, tellsNumber, tellsNothing, stops, goesOn, performed}
+use Rattle.text.specs.Marks.{listIn}
 use Rattle.text.specs.Text.{verdict}
 use Rattle.setup.specs.SetUp.{setUp}
-use Rattle.calls.specs.Entry.{badTable, badWork, shown, used}
+use Rattle.calls.specs.Entry.{badTable, badWork, shown, stored, used}
 use Rattle.calls.specs.Run.{Ran, operations, badScript, badResults, notRun, ranTo, ran}
-use Rattle.calls.specs.Read.{notRead}
+use Rattle.calls.specs.Read.{notRead, readIn}
 use Rattle.calls.specs.Write.{notWritten}
 use Rattle.promises.specs.Engine.{Engine, ours}
 
@@ -73,6 +75,30 @@ countsRefused = record { setUp = ours .setUp; run = ours .run; read = ours .read
 -- hands nothing back
 abbrev pub losesRest : Engine
 losesRest = record { setUp = ours .setUp; run = ours .run; read = ours .read; write = ours .write; check = ours .check; rest = λ xs. [] }
+
+-- reads with the cells of an element taken after the later cells of its list: right lists in other cells
+unfoldable pub loadLate : Lst → ℕ → List Cell → Made
+loadLate nil f cs = record { free = f; cells = cs; head = 0 }
+loadLate (atom v l) f cs =
+    let z = loadLate l (nextOf cs f) cs in
+    record { free = z .free; cells = put (z .cells) f (record { kind = 0; elem = v; count = 1; next = z .head }); head = f }
+loadLate (list e l) f cs =
+    let z = loadLate l (nextOf cs f) cs in
+    let u = loadLate e (z .free) (z .cells) in
+    record { free = u .free; cells = put (u .cells) f (record { kind = 1; elem = u .head; count = 1; next = z .head }); head = f }
+
+abbrev readLate : Pool → ℕ → Lst → Pool
+readLate p h l = let z = loadLate l (p .free) (p .cells) in record { free = z .free; holders = set (p .holders) h (z .head); cells = z .cells }
+
+abbrev pub takesLate : Engine
+takesLate = record {
+  setUp = ours .setUp;
+  run = ours .run;
+  read = λ ts ws h xs. let r = readIn ts ws h xs in record { answer = r .answer; count = r .count; table = cond (eqb (r .answer) DONE) (stored ts (readLate (shown ts) h (listIn xs))) (r .table); work = r .work };
+  write = ours .write;
+  check = ours .check;
+  rest = ours .rest;
+}
 
 -- ours with another test for soundness and other rules for operations
 
