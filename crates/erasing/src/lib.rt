@@ -1,4 +1,4 @@
-// What drops an arrow: erasing by the report's steps, and ADV, which erases after it has borrowed.
+// What drops an arrow: erasing by the report's steps, and ADV, whose arrow goes straight on to the tail.
 ghost use mathlib.Core.Path.{_≡_};
 ghost use mathlib.Core.Logic.{_≢_};
 ghost use Prim.Native.Nat.{_≤_, _<_};
