@@ -1,6 +1,6 @@
 -- Laws of lists: the length against the longest way, reversing twice. By induction on the first list.
 use mathlib.Core.Path.{_≡_, refl, ap, _∙_}
-use Prim.Native.Nat.{ℕ, _≤_}
+use Prim.Native.Nat.{_≤_}
 use native.Mathlib.Omega.{arith}
 use Rattle.lists.specs.Lst.{Lst, len, path, nil, atom, list, onto, reversed, joined}
 

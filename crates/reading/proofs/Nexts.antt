@@ -11,39 +11,35 @@ use lib.ListN.{length, drop, getD}
 use Rattle.scan.proofs.Atoms as atoms
 use Rattle.scan.proofs.Atoms.{numeral-fits}
 use Rattle.scan.proofs.RunLaws.{run-next}
-use Rattle.scan.proofs.Tokens.{closed-out, closed-other, taken-open, taken-early, taken-none, taken-long, taken-out, taken-other}
+use Rattle.scan.proofs.Tokens.{Shutting, AtomTo, closed-out, closed-other, taken-open, taken-early, taken-none, taken-long, taken-out, taken-other}
 use Rattle.scan.specs.Places as places
-use Rattle.scan.specs.Places.{placed, tooLong, closedAt, Prospect, prospect, behind, shuts, Inside}
+use Rattle.scan.specs.Places.{placed, tooLong, closedAt, Inside}
 use Rattle.scan.specs.Runs.{digitRun, numeral}
 use Rattle.scan.specs.declared.step.Place.{Place}
 use Rattle.scan.specs.declared.step.Step.the-variants.{Mark, Fault}
 use Rattle.text.specs.Limits.{levels, atomsEnd}
 use Rattle.text.specs.ListText.{isDigit}
-use Rattle.text.specs.Text.{scanned}
 use Rattle.text.specs.TextLaws.{decide}
-use Rattle.reading.specs.Accepting.{Taken, Amid, Goes}
+use Rattle.reading.specs.Accepting.{Taken, Amid, Said, Goes}
 use Rattle.reading.specs.Numbers.{endAt, Numbered}
 use Rattle.reading.proofs.Numerals.{digit-on, digit-off}
 use Rattle.reading.specs.AcceptingLaws.{refuted, inside}
 
-module _ (s : List ℕ) (t : Taken s) where
-  -- behind n times ")"
-  module _ (a d e i : ℕ) (o : Prospect) (n : ℕ) (from : a ≤ i) (deep : 1 ≤ d) (fits : d ≤ levels) (count : e ≤ i) (same : o ≡ behind (shuts n) (prospect (closedAt d i) (drop i s))) (said : o .answered ≡ scanned s) where
-    pub goes-on : i < length s
-    goes-on =
-        decide (leb (length s) i) (i < length s) (λ q. refuted s t 15 (sym said ∙ closed-out s a d e i o n from deep fits count same (leb-true (length s) i q))) (λ q. leb-false (length s) i q)
+-- behind a ")", with a list open
+module _ {s : List ℕ} (t : Taken s) {depth e at d i : ℕ} (said : Said s (closedAt depth at) at) (k : Shutting s depth e at d i) (deep : 1 ≤ d) where
+  pub goes-on : i < length s
+  goes-on = decide (leb (length s) i) (i < length s) (λ q. refuted s t 15 (sym said ∙ closed-out k deep (leb-true (length s) i q))) (λ q. leb-false (length s) i q)
 
-    pub shuts-there : (getD s i 0 ≡ 44 → ⊥) → getD s i 0 ≡ 41
-    shuts-there c = go (ℕ-discrete (getD s i 0) 41)
-      where
-        go : Dec (getD s i 0 ≡ 41) → getD s i 0 ≡ 41
-        go (yes q) = q
-        go (no q) = refuted s t 15 (sym said ∙ closed-other s a d e i o n from deep fits count same goes-on c q)
+  pub shuts-there : (getD s i 0 ≡ 44 → ⊥) → getD s i 0 ≡ 41
+  shuts-there c = go (ℕ-discrete (getD s i 0) 41)
+    where
+      go : Dec (getD s i 0 ≡ 41) → getD s i 0 ≡ 41
+      go (yes q) = q
+      go (no q) = refuted s t 15 (sym said ∙ closed-other k deep goes-on c q)
 
--- an atom from p to i, with something behind it
-pub record AtomTo (s : List ℕ) (p : Place) (i : ℕ) : Type 0 where
-  pub digit : isDigit (getD s (p .at) 0) ≡ true
-  pub run : i ≡ p .at + 1 + digitRun (drop (p .at + 1) s)
+-- an atom from p to i, and what follows it
+pub record Whole (s : List ℕ) (p : Place) (i : ℕ) : Type 0 where
+  pub atom : AtomTo s p i
   pub short : tooLong (i - p .at) (getD s (p .at) 0) ≡ false
   pub more : i < length s
   pub ends : (getD s i 0 ≡ 44 → ⊥) → getD s i 0 ≡ 41
@@ -57,7 +53,7 @@ module _ {s : List ℕ} {p : Place} (a : Amid s p) where
   no-fault k w = refuted s (a .taken) k (sym (a .place .answered) ∙ w)
 
   pub opens : getD s (p .at) 0 ≡ 40 → Goes s p (placed (p .at + 1) (p .depth + 1) (p .elements + 1) true)
-  opens q = go (leb levels (p .depth)) (taken-open s p here q)
+  opens q = go (leb levels (p .depth)) (taken-open here q)
     where
       go : (b : Bool) → places.Taken s p (cond b (Fault 17) (Mark (placed (p .at + 1) (p .depth + 1) (p .elements + 1) true))) → Goes s p (placed (p .at + 1) (p .depth + 1) (p .elements + 1) true)
       go true w = no-fault 17 w
@@ -68,46 +64,46 @@ module _ {s : List ℕ} {p : Place} (a : Amid s p) where
     where
       go : (b : Bool) → p .first ≡ b → p .first ≡ true
       go true e = e
-      go false e = no-fault 15 (taken-early s p here e q)
+      go false e = no-fault 15 (taken-early here e q)
 
   -- at a digit
   module _ (e : isDigit (getD s (p .at) 0) ≡ true) (i : ℕ) (end : i ≡ endAt s (p .at)) where
-    run : i ≡ p .at + 1 + digitRun (drop (p .at + 1) s)
-    run = omega (arith, run-next s (p .at) (here .some) e)
+    atom : AtomTo s p i
+    atom = record { digit = e; run = omega (arith, run-next s (p .at) (here .some) e) }
 
     short : tooLong (i - p .at) (getD s (p .at) 0) ≡ false
     short = go (tooLong (i - p .at) (getD s (p .at) 0)) refl
       where
         go : (b : Bool) → tooLong (i - p .at) (getD s (p .at) 0) ≡ b → tooLong (i - p .at) (getD s (p .at) 0) ≡ false
-        go true q = no-fault 16 (taken-long s p here e i run q)
+        go true q = no-fault 16 (taken-long here atom q)
         go false q = q
 
     more : i < length s
-    more = decide (leb (length s) i) (i < length s) (λ q. no-fault 15 (taken-out s p here e i run short (leb-true (length s) i q))) (λ q. leb-false (length s) i q)
+    more = decide (leb (length s) i) (i < length s) (λ q. no-fault 15 (taken-out here atom short (leb-true (length s) i q))) (λ q. leb-false (length s) i q)
 
     ends : (getD s i 0 ≡ 44 → ⊥) → getD s i 0 ≡ 41
     ends c = go (ℕ-discrete (getD s i 0) 41)
       where
         go : Dec (getD s i 0 ≡ 41) → getD s i 0 ≡ 41
         go (yes q) = q
-        go (no q) = no-fault 15 (taken-other s p here e i run short more c q)
+        go (no q) = no-fault 15 (taken-other here atom short more c q)
 
     fits : numeral 0 (drop (p .at) s) < atomsEnd
     fits =
         let b = getD s (p .at) 0 in
         let c = digitRun (drop (p .at + 1) s) in
-        let n : i - p .at ≡ c + 1 = omega (arith, run) in
+        let n : i - p .at ≡ c + 1 = omega (arith, atom .run) in
         let word = (atoms.short c b e (sym (ap (λ (m : ℕ). tooLong m b) n) ∙ short)) .1 in
         let z : c ≡ 0 + c = omega arith in
         rw (digit-on s (p .at) 0 (here .some) e .value)
         (numeral-fits (drop (p .at + 1) s) 0 (0 * 8 + (b - 48)) (b - 48) (omega arith) (subst (λ (m : ℕ). atoms.scale m (b - 48 + 1) ≤ atomsEnd) z word))
 
-  pub atom-to : {i : ℕ} → (getD s (p .at) 0 ≡ 40 → ⊥) → (getD s (p .at) 0 ≡ 41 → ⊥) → i ≡ endAt s (p .at) → AtomTo s p i
-  atom-to {i} x y end = go (isDigit (getD s (p .at) 0)) refl
+  pub whole : {i : ℕ} → (getD s (p .at) 0 ≡ 40 → ⊥) → (getD s (p .at) 0 ≡ 41 → ⊥) → i ≡ endAt s (p .at) → Whole s p i
+  whole {i} x y end = go (isDigit (getD s (p .at) 0)) refl
     where
-      go : (b : Bool) → isDigit (getD s (p .at) 0) ≡ b → AtomTo s p i
-      go true e = record { digit = e; run = run e i end; short = short e i end; more = more e i end; ends = ends e i end }
-      go false e = no-fault 15 (taken-none s p here e x y)
+      go : (b : Bool) → isDigit (getD s (p .at) 0) ≡ b → Whole s p i
+      go true e = record { atom = atom e i end; short = short e i end; more = more e i end; ends = ends e i end }
+      go false e = no-fault 15 (taken-none here e x y)
 
   pub numbered : Numbered s (p .at)
   numbered = go (isDigit (getD s (p .at) 0)) refl

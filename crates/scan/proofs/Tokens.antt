@@ -17,7 +17,7 @@ use Rattle.text.specs.Marks.{Mark, met, begun, pending, shut, value}
 use Rattle.text.specs.TextLaws.{by-case, no-yes, digit-step, Class, is-open, is-shut, is-comma, is-blank, is-digit, is-other, class}
 use Rattle.text.specs.MarkLaws.{begun-append}
 use Rattle.scan.specs.Runs.{digitRun, numeral}
-use Rattle.scan.specs.Places.{placed, openOf, tooLong, overAt, stateOf, closedAt, phaseOf, Prospect, prospect, prospectAt, behind, shuts, emitted, Inside, Onward, Told, Taken, Closed}
+use Rattle.scan.specs.Places.{placed, openOf, tooLong, stateOf, closedAt, phaseOf, Prospect, prospect, prospectAt, behind, shuts, emitted, Inside, Closing, Onward, Told, Taken, Closed}
 use Rattle.scan.specs.declared.step.Place.{Place}
 use Rattle.scan.specs.declared.step.Step.{Step}
 use Rattle.scan.specs.declared.step.Step.the-variants as step
@@ -162,61 +162,98 @@ no-element f d b n p q (is-blank e) = ap (stepOf (place (phaseOf f) d 0 0)) e �
 no-element f d b n p q (is-digit x h e) = not-digit b x h e n
 no-element f d b n p q (is-other g) = g (place (phaseOf f) d 0 0)
 
--- behind n times ")", from the prospect o at the place a
-module _ (s : List ℕ) (a d e i : ℕ) (o : Prospect) (n : ℕ) (from : a ≤ i) (deep : 1 ≤ d) (fits : d ≤ levels) (count : e ≤ i) (same : o ≡ behind (shuts n) (prospect (closedAt d i) (drop i s))) where
-  abbrev scanBehind : Scan
-  scanBehind = place afterElement d 0 0
+-- behind a ")" that left depth levels open, before at: d are left before i
+pub record Shutting (s : List ℕ) (depth e at d i : ℕ) : Type 0 where
+  pub from : at ≤ i
+  pub within : i ≤ length s
+  pub levelled : d ≤ levels
+  pub high : d ≤ depth
+  pub counted : e ≤ i
+  pub same : prospect (closedAt depth at) (drop at s) ≡ behind (shuts (depth - d)) (prospect (closedAt d i) (drop i s))
 
-  stands : o ≡ behind (shuts n) (prospect (at scanBehind i) (drop i s))
-  stands =
-      let some : d ≡ 0 → ⊥ = λ z. omega arith in
-      let st : closedAt d i ≡ at scanBehind i = simp (ne-eqb d 0 some) in
-      same ∙ ap (λ (u : State). behind (shuts n) (prospect u (drop i s))) st
-
-  pub closed-out : length s ≤ i → o .answered ≡ refusal 15
-  closed-out h = ap (λ (x : Prospect). x .answered) (stands ∙ ap (λ (l : List ℕ). behind (shuts n) (prospect (at scanBehind i) l)) (drop-of-length-le s h))
-
-  pub closed-comma : (top : ℕ) → d ≤ top → i < length s → getD s i 0 ≡ 44 → Onward s a e top o (shuts n) (placed (i + 1) d e false)
-  closed-comma top high h q =
-      let w = comma-on s a scanBehind i from h deep fits e e top high refl (omega arith) (omega arith) q in
-      record {
-        on = w .on;
-        within = w .within;
-        levelled = fits;
-        counted = w .counted;
-        tallied = omega (arith, begun-shuts n);
-        high = high;
-        same = stands ∙ ap (behind (shuts n)) (w .same);
-      }
-
-  pub closed-other : i < length s → (getD s i 0 ≡ 44 → ⊥) → (getD s i 0 ≡ 41 → ⊥) → o .answered ≡ refusal 15
-  closed-other h p q =
-      ap (λ (x : Prospect). x .answered) stands
-      ∙ fault-told s a scanBehind i from h deep fits (getD s i 0) 15 refl (behind-element d (getD s i 0) p q (class (getD s i 0)))
-
-  pub closed-again : (m : ℕ) → suc n ≡ m → i < length s → getD s i 0 ≡ 41 → o ≡ behind (shuts m) (prospect (closedAt (d - 1) (i + 1)) (drop (i + 1) s))
-  closed-again m z h q =
-      let next = prospect (closedAt (d - 1) (i + 1)) (drop (i + 1) s) in
-      stands ∙ ap (behind (shuts n)) (shut-same s a scanBehind i from h deep fits refl q)
-      ∙ behind-behind (shuts n) (shut ∷ []) next
-      ∙ ap (λ (ms : List Mark). behind ms next) (shuts-more n ∙ ap shuts z)
-
-pub closed-over : (s : List ℕ) (a e i : ℕ) (o : Prospect) (d n m top : ℕ) → a < i → i ≤ length s → e ≤ i → d ≡ 0 → n ≡ m
-    → o ≡ behind (shuts n) (prospect (closedAt d i) (drop i s)) → Onward s a e top o (shuts m) (placed i 0 e false)
-closed-over s a e i o d n m top from h count z is same =
+pub shut-once : {s : List ℕ} {d e i : ℕ} → Closing s d e i → Shutting s d e i d i
+shut-once {s} {d} {e} {i} k =
+    let z : 0 ≡ d - d = omega arith in
     record {
-      on = from;
-      within = h;
-      levelled = omega arith;
-      counted = count;
-      tallied = omega (arith, begun-shuts m);
+      from = omega arith;
+      within = k .within;
+      levelled = k .levelled;
       high = omega arith;
-      same = same ∙ ap (λ (k : ℕ). behind (shuts n) (prospect (closedAt k i) (drop i s))) z
-          ∙ ap (λ (k : ℕ). behind (shuts k) (prospect (overAt i) (drop i s))) is;
+      counted = k .counted;
+      same = ap (λ (n : ℕ). behind (shuts n) (prospect (closedAt d i) (drop i s))) z;
     }
 
+module _ {s : List ℕ} {depth e at d i : ℕ} (k : Shutting s depth e at d i) where
+  abbrev closing : Prospect
+  closing = prospect (closedAt depth at) (drop at s)
+
+  module _ (deep : 1 ≤ d) where
+    abbrev scanBehind : Scan
+    scanBehind = place afterElement d 0 0
+
+    stands : closing ≡ behind (shuts (depth - d)) (prospect (text.at scanBehind i) (drop i s))
+    stands =
+        let some : d ≡ 0 → ⊥ = λ z. omega arith in
+        let st : closedAt d i ≡ text.at scanBehind i = simp (ne-eqb d 0 some) in
+        k .same ∙ ap (λ (u : State). behind (shuts (depth - d)) (prospect u (drop i s))) st
+
+    pub closed-out : length s ≤ i → Closed s depth e at (Fault 15)
+    closed-out h =
+        ap (λ (x : Prospect). x .answered) (stands ∙ ap (λ (l : List ℕ). behind (shuts (depth - d)) (prospect (text.at scanBehind i) l)) (drop-of-length-le s h))
+
+    module _ (some : i < length s) where
+      pub closed-comma : 1 ≤ at → getD s i 0 ≡ 44 → Closed s depth e at (step.Mark (placed (i + 1) d e false))
+      closed-comma low q =
+          let w = comma-on s (at - 1) scanBehind i (omega (arith, k .from)) some deep (k .levelled) e e depth (k .high) refl (omega arith) (omega (arith, k .counted)) q in
+          record {
+            on = w .on;
+            within = w .within;
+            levelled = k .levelled;
+            counted = w .counted;
+            tallied = omega (arith, begun-shuts (depth - d));
+            high = k .high;
+            same = stands ∙ ap (behind (shuts (depth - d))) (w .same);
+          }
+
+      pub closed-other : (getD s i 0 ≡ 44 → ⊥) → (getD s i 0 ≡ 41 → ⊥) → Closed s depth e at (Fault 15)
+      closed-other p q =
+          ap (λ (x : Prospect). x .answered) stands
+          ∙ fault-told s at scanBehind i (k .from) some deep (k .levelled) (getD s i 0) 15 refl (behind-element d (getD s i 0) p q (class (getD s i 0)))
+
+      pub closed-again : getD s i 0 ≡ 41 → Shutting s depth e at (d - 1) (i + 1)
+      closed-again q =
+          let next = prospect (closedAt (d - 1) (i + 1)) (drop (i + 1) s) in
+          let more : suc (depth - d) ≡ depth - (d - 1) = omega (arith, k .high) in
+          record {
+            from = omega (arith, k .from);
+            within = omega arith;
+            levelled = omega (arith, k .levelled);
+            high = omega (arith, k .high);
+            counted = omega (arith, k .counted);
+            same = stands ∙ ap (behind (shuts (depth - d))) (shut-same s at scanBehind i (k .from) some deep (k .levelled) refl q)
+                ∙ behind-behind (shuts (depth - d)) (shut ∷ []) next
+                ∙ ap (λ (ms : List Mark). behind ms next) (shuts-more (depth - d) ∙ ap shuts more);
+          }
+
+  pub closed-over : 1 ≤ at → d ≡ 0 → Closed s depth e at (step.Mark (placed i 0 e false))
+  closed-over low z =
+      record {
+        on = omega (arith, k .from);
+        within = k .within;
+        levelled = omega arith;
+        counted = k .counted;
+        tallied = omega (arith, begun-shuts (depth - 0));
+        high = omega arith;
+        same = k .same ∙ ap (λ (n : ℕ). behind (shuts (depth - n)) (prospect (closedAt n i) (drop i s))) z;
+      }
+
+-- an atom whose digits end before i
+pub record AtomTo (s : List ℕ) (p : Place) (i : ℕ) : Type 0 where
+  pub digit : isDigit (getD s (p .at) 0) ≡ true
+  pub run : i ≡ p .at + 1 + digitRun (drop (p .at + 1) s)
+
 -- from a place where an element is to begin
-module _ (s : List ℕ) (p : Place) (h : Inside s p) where
+module _ {s : List ℕ} {p : Place} (h : Inside s p) where
   abbrev scanAt : Scan
   scanAt = place (phaseOf (p .first)) (p .depth) 0 0
 
@@ -279,8 +316,8 @@ module _ (s : List ℕ) (p : Place) (h : Inside s p) where
       (fault-told s (p .at) scanAt (p .at) (omega arith) (h .some) (h .deep) (h .levelled) (getD s (p .at) 0) 15 refl
       (no-element (p .first) (p .depth) (getD s (p .at) 0) n c d (class (getD s (p .at) 0))))
 
-  -- an atom whose digits end before i
-  module _ (e : isDigit (getD s (p .at) 0) ≡ true) (i : ℕ) (r : i ≡ p .at + 1 + digitRun (drop (p .at + 1) s)) where
+  -- an atom
+  module _ {i : ℕ} (a : AtomTo s p i) where
     abbrev more : ℕ
     more = digitRun (drop (p .at + 1) s)
 
@@ -288,18 +325,18 @@ module _ (s : List ℕ) (p : Place) (h : Inside s p) where
     b = getD s (p .at) 0
 
     digits : tooLong (i - p .at) b ≡ tooLong (more + 1) b
-    digits = let q : i - p .at ≡ more + 1 = omega arith in ap (λ (n : ℕ). tooLong n b) q
+    digits = let q : i - p .at ≡ more + 1 = omega (arith, a .run) in ap (λ (n : ℕ). tooLong n b) q
 
     pub taken-long : tooLong (i - p .at) b ≡ true → Taken s p (Fault 16)
     taken-long t =
-        told-fault 16 (atom-off s scanAt (p .at) (h .some) ((may-begin (p .first)) .1) e more refl (long more b (sym digits ∙ t)))
+        told-fault 16 (atom-off s scanAt (p .at) (h .some) ((may-begin (p .first)) .1) (a .digit) more refl (long more b (sym digits ∙ t)))
 
     module _ (t : tooLong (i - p .at) b ≡ false) where
       on : Past (p .depth) there i (numeral 0 (drop (p .at) s)) (drop i s)
       on =
-          let fits = short more b e (sym digits ∙ t) in
-          subst (λ (n : ℕ). Past (p .depth) there n (numeral 0 (drop (p .at) s)) (drop n s)) (sym r)
-          (atom-on s scanAt (p .at) (h .some) ((may-begin (p .first)) .1) e more refl (fits .0) (fits .1))
+          let fits = short more b (a .digit) (sym digits ∙ t) in
+          subst (λ (n : ℕ). Past (p .depth) there n (numeral 0 (drop (p .at) s)) (drop n s)) (sym (a .run))
+          (atom-on s scanAt (p .at) (h .some) ((may-begin (p .first)) .1) (a .digit) more refl (fits .0) (fits .1))
 
       abbrev scanIn : Scan
       scanIn = place inAtom (p .depth) (on .digits) (on .value)
@@ -322,7 +359,7 @@ module _ (s : List ℕ) (p : Place) (h : Inside s p) where
 
       pub taken-other : i < length s → (getD s i 0 ≡ 44 → ⊥) → (getD s i 0 ≡ 41 → ⊥) → Taken s p (Fault 15)
       taken-other some x y =
-          let ends : isDigit (getD s i 0) ≡ false = ap (λ (n : ℕ). isDigit (getD s n 0)) r ∙ run-ends s (p .at + 1) more refl (omega arith) in
+          let ends : isDigit (getD s i 0) ≡ false = ap (λ (n : ℕ). isDigit (getD s n 0)) (a .run) ∙ run-ends s (p .at + 1) more refl (omega (arith, a .run)) in
           told-in (Fault 15)
           (fault-told s (p .at) scanIn i (omega arith) some (h .deep) (h .levelled) (getD s i 0) 15 refl
           (behind-digits (p .depth) (on .digits) (on .value) (getD s i 0) ends x y (class (getD s i 0))))

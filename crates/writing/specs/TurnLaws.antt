@@ -2,21 +2,19 @@
 use Prim.Native.Nat.{ℕ, zero, suc, _+_, _-_, _≤_, _<_}
 use mathlib.Core.Path.{_≡_, refl, sym, ap, subst, _∙_}
 use mathlib.Core.Logic.{_≢_}
-use mathlib.Core.Bool.{true, false, cond}
+use mathlib.Core.Bool.{true, false}
 use mathlib.Core.List.{List, [], _∷_, _++_, append-assoc}
 use native.Mathlib.Omega.{arith}
-use lib.Dec.{leb, leb·suc-suc}
+use lib.Dec.{leb·suc-suc}
 use lib.ListN.{length, getD, set}
 use lib.Seq.{getD-set-same, getD-set-other}
 use borrow.Author.Tests.{ne-eqb, lt-leb, le-leb}
-use Rattle.answers.specs.Answers.{OUTPUT}
 use Rattle.lists.specs.Lst.{Lst, nil, atom, list}
 use Rattle.pool.specs.Edit.{live-cell}
 use Rattle.pool.specs.Pool.{Cell, kindOf, elemOf, nextOf, Live, ListAt}
 use Rattle.text.specs.Limits.{levels}
 use Rattle.text.specs.ListText.{items}
 use Rattle.text.specs.ReadBack.{body, opens-body}
-use Rattle.text.specs.Writing.{judged}
 use Rattle.text.specs.WritingLaws.{Plain, plain-append, plain-octal, judged-plain}
 use Rattle.writing.specs.Numeral.{numeral}
 use Rattle.writing.specs.Steps.{comma}

@@ -22,7 +22,7 @@ use Rattle.writing.specs.Numeral.{numeral}
 use Rattle.writing.specs.NumeralLaws.{some-digits}
 use Rattle.writing.specs.Steps.{comma, begun, shutAt, passAt, openAt, keptAt, Turn, shuts, passes, opens, Ready}
 use Rattle.writing.specs.Measures.{listAt, textAt, Stands}
-use Rattle.writing.specs.Walking.{rest, Here, Levels, Walking, Judges, Turned}
+use Rattle.writing.specs.Walking.{rest, Here, Walking, Turned}
 use Rattle.writing.specs.TurnLaws.{goes-shut, goes-pass, goes-open, opening, live-here, judges-shut, judges-pass, judges-open}
 
 pub begins : (cs : List Cell) (x u : ℕ) (w : Walk) → Stands cs x → 1 ≤ u → w ≡ begun x → Walking cs (textAt cs x) u (replicate levels 0) w

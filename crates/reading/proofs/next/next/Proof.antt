@@ -1,11 +1,10 @@
 -- `reading::next::next` meets its contract.
 use mathlib.Core.Path.{sym, _∙_}
 use native.Mathlib.Omega.{arith}
-use borrow.Author.Needs.{needs}
 use Rattle.scan.specs.Places.{Inside}
 use Rattle.scan.specs.declared.step.Step.the-variants.{Mark}
 use Rattle.scan.proofs.Tokens.{shut-answered, atom-answered, taken-shut, taken-comma, taken-closed}
-use Rattle.reading.proofs.Nexts.{AtomTo, here, opens, empty, atom-to}
+use Rattle.reading.proofs.Nexts.{Whole, here, opens, empty, whole}
 use Rattle.reading.proofs.next.next.Statement.{statement}
 use Rattle.reading.proofs.next.next.Tie as tie
 
@@ -13,10 +12,10 @@ inside : (c : tie.Start) → Inside (c .args .text .now) (c .args .p)
 inside c = here (c .pre .0)
 
 -- neither "(" nor ")"
-atom : (c : tie.Else2) → AtomTo (c .before .before .before .before .before .args .text .now) (c .before .before .before .before .before .args .p) (c .before .before .before .before .before .args .end)
+atom : (c : tie.Else2) → Whole (c .before .before .before .before .before .args .text .now) (c .before .before .before .before .before .args .p) (c .before .before .before .before .before .args .end)
 atom c =
     let start = c .before .before .before .before .before in
-    atom-to (start .pre .0) (c .before .before .if1 .left) (c .if2 .left) (start .pre .1)
+    whole (start .pre .0) (c .before .before .if1 .left) (c .if2 .left) (start .pre .1)
 
 shared-slice-read-if1 : tie.Need-shared-slice-read-if1
 shared-slice-read-if1 c = inside (c .before .before) .some
@@ -47,13 +46,13 @@ closed-requires c κs =
     let start = c .before .before .before .before .before .before in
     let h = inside start in
     let shut = c .before .if2 .taken in
-    (start .pre .0 .taken, (record { some = omega arith; within = omega arith; small = h .small; levelled = omega arith; counted = omega arith }, sym (shut-answered (start .args .text .now) (start .args .p) h (empty (start .pre .0) shut) shut) ∙ start .pre .0 .place .answered))
+    (start .pre .0 .taken, (record { some = omega arith; within = omega arith; small = h .small; levelled = omega arith; counted = omega arith }, sym (shut-answered h (empty (start .pre .0) shut) shut) ∙ start .pre .0 .place .answered))
 
 returns-2 : tie.Need-returns-2
 returns-2 c =
     let start = c .before .before .before .before .before .before .before in
     let shut = c .before .before .if2 .taken in
-    taken-shut (start .args .text .now) (start .args .p) (inside start) (empty (start .pre .0) shut) shut (Mark (c .closed .result)) (c .closed .ensures)
+    taken-shut (inside start) (empty (start .pre .0) shut) shut (Mark (c .closed .result)) (c .closed .ensures)
 
 shared-slice-read-if3 : tie.Need-shared-slice-read-if3
 shared-slice-read-if3 c = atom (c .before) .more
@@ -71,7 +70,7 @@ returns-3 : tie.Need-returns-3
 returns-3 c =
     let start = c .before .before .before .before .before .before .before .before in
     let a = atom (c .before .before .before) in
-    taken-comma (start .args .text .now) (start .args .p) (inside start) (a .digit) (start .args .end) (a .run) (a .short) (a .more) (c .before .if3 .taken)
+    taken-comma (inside start) (a .atom) (a .short) (a .more) (c .before .if3 .taken)
 
 sub-closed-2 : tie.Need-sub-closed-2
 sub-closed-2 c = let h = inside (c .before .before .before .before .before .before .before .before) in omega arith
@@ -91,13 +90,13 @@ closed-requires-2 c κs =
     let h = inside start in
     let a = atom (c .before .before .before .before) in
     let shut = a .ends (c .before .before .if3 .left) in
-    (start .pre .0 .taken, (record { some = omega arith; within = omega arith; small = h .small; levelled = omega arith; counted = omega arith }, sym (atom-answered (start .args .text .now) (start .args .p) h (a .digit) (start .args .end) (a .run) (a .short) (a .more) shut) ∙ start .pre .0 .place .answered))
+    (start .pre .0 .taken, (record { some = omega arith; within = omega arith; small = h .small; levelled = omega arith; counted = omega arith }, sym (atom-answered h (a .atom) (a .short) (a .more) shut) ∙ start .pre .0 .place .answered))
 
 returns-4 : tie.Need-returns-4
 returns-4 c =
     let start = c .before .before .before .before .before .before .before .before .before .before in
     let a = atom (c .before .before .before .before .before) in
-    taken-closed (start .args .text .now) (start .args .p) (inside start) (a .digit) (start .args .end) (a .run) (a .short) (a .more) (a .ends (c .before .before .before .if3 .left)) (Mark (c .closed2 .result)) (c .closed2 .ensures)
+    taken-closed (inside start) (a .atom) (a .short) (a .more) (a .ends (c .before .before .before .if3 .left)) (Mark (c .closed2 .result)) (c .closed2 .ensures)
 
 pub next-spec : {M : Type 1} → statement M
 next-spec =

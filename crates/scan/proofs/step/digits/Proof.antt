@@ -2,9 +2,12 @@
 use borrow.Author.Needs.{needs}
 use mathlib.Core.Path.{sym, _∙_}
 use native.Mathlib.Omega.{arith}
-use Rattle.scan.proofs.Tokens.{taken-long, taken-out, taken-comma, taken-other, taken-closed}
+use Rattle.scan.proofs.Tokens.{AtomTo, taken-long, taken-out, taken-comma, taken-other, taken-closed}
 use Rattle.scan.proofs.step.digits.Statement.{statement}
 use Rattle.scan.proofs.step.digits.Tie as tie
+
+atom : (c : tie.After-run-end) → AtomTo (c .before .before .args .text .now) (c .before .before .args .p) (c .run-end .result)
+atom c = record { digit = c .before .before .pre .1; run = c .run-end .ensures }
 
 add-run-end : tie.Need-add-run-end
 add-run-end c = search needs
@@ -22,10 +25,10 @@ too-long-requires : tie.Need-too-long-requires
 too-long-requires c κs = search needs
 
 returns : tie.Need-returns
-returns c = taken-long (c .before .before .before .before .before .args .text .now) (c .before .before .before .before .before .args .p) (c .before .before .before .before .before .pre .0) (c .before .before .before .before .before .pre .1) (c .before .before .before .run-end .result) (c .before .before .before .run-end .ensures) (sym (c .before .too-long .ensures) ∙ c .if1 .taken)
+returns c = taken-long (c .before .before .before .before .before .pre .0) (atom (c .before .before .before)) (sym (c .before .too-long .ensures) ∙ c .if1 .taken)
 
 returns-2 : tie.Need-returns-2
-returns-2 c = taken-out (c .before .before .before .before .before .before .args .text .now) (c .before .before .before .before .before .before .args .p) (c .before .before .before .before .before .before .pre .0) (c .before .before .before .before .before .before .pre .1) (c .before .before .before .before .run-end .result) (c .before .before .before .before .run-end .ensures) (sym (c .before .before .too-long .ensures) ∙ c .before .if1 .left) (c .if2 .taken)
+returns-2 c = taken-out (c .before .before .before .before .before .before .pre .0) (atom (c .before .before .before .before)) (sym (c .before .before .too-long .ensures) ∙ c .before .if1 .left) (c .if2 .taken)
 
 shared-slice-read-if3 : tie.Need-shared-slice-read-if3
 shared-slice-read-if3 c = search needs
@@ -37,13 +40,13 @@ add-t12 : tie.Need-add-t12
 add-t12 c = search needs
 
 returns-3 : tie.Need-returns-3
-returns-3 c = taken-comma (c .before .before .before .before .before .before .before .before .before .args .text .now) (c .before .before .before .before .before .before .before .before .before .args .p) (c .before .before .before .before .before .before .before .before .before .pre .0) (c .before .before .before .before .before .before .before .before .before .pre .1) (c .before .before .before .before .before .before .before .run-end .result) (c .before .before .before .before .before .before .before .run-end .ensures) (sym (c .before .before .before .before .before .too-long .ensures) ∙ c .before .before .before .before .if1 .left) (c .before .before .before .if2 .left) (c .before .if3 .taken)
+returns-3 c = taken-comma (c .before .before .before .before .before .before .before .before .before .pre .0) (atom (c .before .before .before .before .before .before .before)) (sym (c .before .before .before .before .before .too-long .ensures) ∙ c .before .before .before .before .if1 .left) (c .before .before .before .if2 .left) (c .before .if3 .taken)
 
 shared-slice-read-if4 : tie.Need-shared-slice-read-if4
 shared-slice-read-if4 c = search needs
 
 returns-4 : tie.Need-returns-4
-returns-4 c = taken-other (c .before .before .before .before .before .before .before .before .before .before .args .text .now) (c .before .before .before .before .before .before .before .before .before .before .args .p) (c .before .before .before .before .before .before .before .before .before .before .pre .0) (c .before .before .before .before .before .before .before .before .before .before .pre .1) (c .before .before .before .before .before .before .before .before .run-end .result) (c .before .before .before .before .before .before .before .before .run-end .ensures) (sym (c .before .before .before .before .before .before .too-long .ensures) ∙ c .before .before .before .before .before .if1 .left) (c .before .before .before .before .if2 .left) (c .before .before .if3 .left) (c .if4 .taken)
+returns-4 c = taken-other (c .before .before .before .before .before .before .before .before .before .before .pre .0) (atom (c .before .before .before .before .before .before .before .before)) (sym (c .before .before .before .before .before .before .too-long .ensures) ∙ c .before .before .before .before .before .if1 .left) (c .before .before .before .before .if2 .left) (c .before .before .if3 .left) (c .if4 .taken)
 
 sub-closed : tie.Need-sub-closed
 sub-closed c = search needs
@@ -65,7 +68,7 @@ closed-requires c κs =
     }
 
 returns-5 : tie.Need-returns-5
-returns-5 c = taken-closed (c .before .before .before .before .before .before .before .before .before .before .before .before .before .args .text .now) (c .before .before .before .before .before .before .before .before .before .before .before .before .before .args .p) (c .before .before .before .before .before .before .before .before .before .before .before .before .before .pre .0) (c .before .before .before .before .before .before .before .before .before .before .before .before .before .pre .1) (c .before .before .before .before .before .before .before .before .before .before .before .run-end .result) (c .before .before .before .before .before .before .before .before .before .before .before .run-end .ensures) (sym (c .before .before .before .before .before .before .before .before .before .too-long .ensures) ∙ c .before .before .before .before .before .before .before .before .if1 .left) (c .before .before .before .before .before .before .before .if2 .left) (c .before .before .before .if4 .left) (c .closed .result) (c .closed .ensures)
+returns-5 c = taken-closed (c .before .before .before .before .before .before .before .before .before .before .before .before .before .pre .0) (atom (c .before .before .before .before .before .before .before .before .before .before .before)) (sym (c .before .before .before .before .before .before .before .before .before .too-long .ensures) ∙ c .before .before .before .before .before .before .before .before .if1 .left) (c .before .before .before .before .before .before .before .if2 .left) (c .before .before .before .if4 .left) (c .closed .result) (c .closed .ensures)
 
 pub digits-spec : {M : Type 1} → statement M
 digits-spec =

@@ -25,13 +25,13 @@ open-requires : tie.Need-open-requires
 open-requires c κs = search needs
 
 returns-2 : tie.Need-returns-2
-returns-2 c = rw (c .«open» .ensures) (taken-open (c .before .before .before .before .before .before .before .args .text .now) (c .before .before .before .before .before .before .before .args .p) (c .before .before .before .before .before .before .before .pre) (c .before .if2 .taken))
+returns-2 c = rw (c .«open» .ensures) (taken-open (c .before .before .before .before .before .before .before .pre) (c .before .if2 .taken))
 
 shared-slice-read-if3 : tie.Need-shared-slice-read-if3
 shared-slice-read-if3 c = search needs
 
 returns-3 : tie.Need-returns-3
-returns-3 c = taken-none (c .before .before .before .before .before .before .before .before .args .text .now) (c .before .before .before .before .before .before .before .before .args .p) (c .before .before .before .before .before .before .before .before .pre) (sym (c .before .before .before .before .before .is-octal .ensures) ∙ c .before .before .before .before .if1 .left) (c .before .before .if2 .left) (c .if3 .taken)
+returns-3 c = taken-none (c .before .before .before .before .before .before .before .before .pre) (sym (c .before .before .before .before .before .is-octal .ensures) ∙ c .before .before .before .before .if1 .left) (c .before .before .if2 .left) (c .if3 .taken)
 
 sub-closed : tie.Need-sub-closed
 sub-closed c = search needs
@@ -50,10 +50,10 @@ closed-requires c κs =
     }
 
 returns-4 : tie.Need-returns-4
-returns-4 c = taken-shut (c .before .before .before .before .before .before .before .before .before .before .before .args .text .now) (c .before .before .before .before .before .before .before .before .before .before .before .args .p) (c .before .before .before .before .before .before .before .before .before .before .before .pre) (c .before .before .if4 .taken) (c .before .before .before .if3 .left) (c .closed .result) (c .closed .ensures)
+returns-4 c = taken-shut (c .before .before .before .before .before .before .before .before .before .before .before .pre) (c .before .before .if4 .taken) (c .before .before .before .if3 .left) (c .closed .result) (c .closed .ensures)
 
 returns-5 : tie.Need-returns-5
-returns-5 c = taken-early (c .before .before .before .before .before .before .before .before .before .args .text .now) (c .before .before .before .before .before .before .before .before .before .args .p) (c .before .before .before .before .before .before .before .before .before .pre) (c .if4 .left) (c .before .if3 .left)
+returns-5 c = taken-early (c .before .before .before .before .before .before .before .before .before .pre) (c .if4 .left) (c .before .if3 .left)
 
 pub take-spec : {M : Type 1} → statement M
 take-spec =
