@@ -16,8 +16,8 @@ next-of-requires c κs = search needs
 
 set-free-requires : tie.Need-set-free-requires
 set-free-requires c κs =
-    let c0 = c .before .before .before .before .before .before in
-    (c0 .pre .0, rw (c .before .next-of .ensures .0, c .before .before .before .free-head .ensures .0) (c0 .pre .1 .0 .next))
+    let start = c .before .before .before .before .before .before in
+    (start .pre .0, rw (c .before .next-of .ensures .0, c .before .before .before .free-head .ensures .0) (start .pre .1 .0 .next))
 
 set-cell-requires : tie.Need-set-cell-requires
 set-cell-requires c κs = search needs
@@ -27,11 +27,13 @@ same-length c = search needs
 
 returns : tie.Need-returns
 returns c =
-    let a = c .before .before .before .before .before .before .before .before .before .before .before .before .before .args in
-    let x = c .before .before .before .before .before .before .before .before .before .before .free-head .result in (
-      c .before .before .before .before .before .before .before .before .before .before .free-head .ensures .0,
-      said (after (putCell x (cell (a .kind) (a .elem) 1 (a .next))) (c .before .before .before .before .before .before .set-free .ensures) (c .before .before .set-cell .ensures))
-          (ap (λ (n : ℕ). putCell x (cell (a .kind) (a .elem) 1 (a .next)) (putFree n (view (a .s) (a .t .now)))) (c .before .before .before .before .before .before .before .before .next-of .ensures .0)),
+    let after-set-free = c .before .before .before .before .before .before in
+    let after-next-of = after-set-free .before .before in
+    let a = after-next-of .before .before .before .before .before .args in
+    let x = after-next-of .before .before .free-head .result in (
+      after-next-of .before .before .free-head .ensures .0,
+      said (after (putCell x (cell (a .kind) (a .elem) 1 (a .next))) (after-set-free .set-free .ensures) (c .before .before .set-cell .ensures))
+          (ap (λ (n : ℕ). putCell x (cell (a .kind) (a .elem) 1 (a .next)) (putFree n (view (a .s) (a .t .now)))) (after-next-of .next-of .ensures .0)),
     )
 
 pub new-cell-spec : {M : Type 1} → statement M

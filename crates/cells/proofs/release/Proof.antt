@@ -22,9 +22,10 @@ same-length c = search needs
 
 returns : tie.Need-returns
 returns c =
-    let a = c .before .before .before .before .before .before .before .before .before .before .before .args in
-    said (after (putFree (a .x)) (c .before .before .before .before .before .before .set-next .ensures) (c .before .before .set-free .ensures))
-    (ap (λ (f : ℕ). putFree (a .x) (putNext (a .x) f (view (a .s) (a .t .now)))) (c .before .before .before .before .before .before .before .before .free-head .ensures .0))
+    let after-set-next = c .before .before .before .before .before .before in
+    let a = after-set-next .before .before .before .before .before .args in
+    said (after (putFree (a .x)) (after-set-next .set-next .ensures) (c .before .before .set-free .ensures))
+    (ap (λ (f : ℕ). putFree (a .x) (putNext (a .x) f (view (a .s) (a .t .now)))) (after-set-next .before .before .free-head .ensures .0))
 
 pub release-spec : {M : Type 1} → statement M
 release-spec =

@@ -21,24 +21,33 @@ add-n c = search needs
 
 set-count-requires : tie.Need-set-count-requires
 set-count-requires c κs =
-    let c0 = c .before .before .before .before .before in
-    (c0 .pre .0, (record { low = pos-of-ne-zero (c .before .before .before .if1 .taken); high = c0 .pre .1 .0 }, omega (arith, c .before .count-of .ensures .0, c0 .pre .1 .1 (c .before .before .before .if1 .taken))))
+    let then1 = c .before .before .before in
+    let start = then1 .before .before in (
+      start .pre .0,
+      (
+        record { low = pos-of-ne-zero (then1 .if1 .taken); high = start .pre .1 .0 },
+        omega (arith, start .pre .1 .1 (then1 .if1 .taken)),
+      ),
+    )
 
 same-length : tie.Need-same-length
 same-length c = search needs
 
 returns : tie.Need-returns
 returns c =
-    let a = c .before .before .before .before .before .before .before .before .args in
+    let after-count-of = c .before .before .before .before in
+    let a = after-count-of .before .before .before .before .args in
     let p = view (a .s) (a .t .now) in
     said (c .before .before .set-count .ensures)
-    (ap (λ (n : ℕ). putCount (a .x) (n + 1) p) (c .before .before .before .before .count-of .ensures .0) ∙ ap (λ (cs : List Cell). celled cs p) (sym (share-on (p .cells) (a .x) (c .before .before .before .before .before .before .if1 .taken))))
+    (ap (λ (n : ℕ). putCount (a .x) (n + 1) p) (after-count-of .count-of .ensures .0)
+    ∙ ap (λ (cs : List Cell). celled cs p) (sym (share-on _ _ (after-count-of .before .before .if1 .taken))))
 
 returns-2 : tie.Need-returns-2
 returns-2 c =
-    let a = c .before .before .args in
+    let start = c .before .before in
+    let a = start .args in
     let p = view (a .s) (a .t .now) in
-    said (itself (c .before .before .pre .0)) (ap (λ (cs : List Cell). celled cs p) (sym (share-null (p .cells) (a .x) (c .if1 .left))))
+    said (itself (start .pre .0)) (ap (λ (cs : List Cell). celled cs p) (sym (share-null _ _ (c .if1 .left))))
 
 pub share-spec : {M : Type 1} → statement M
 share-spec =

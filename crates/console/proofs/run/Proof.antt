@@ -8,7 +8,9 @@ use Rattle.console.proofs.run.Statement.{statement}
 use Rattle.console.proofs.run.Tie as tie
 
 abbrev Inv-loop : tie.InvT-loop
-Inv-loop fd chunk₀ line₀ table₀ work₀ out₀ texts₀ s₀ turns₀ chunk line table work out texts s turns = Standing s chunk line table work out texts × (length chunk ≡ length chunk₀) × (length line ≡ length line₀) × (length table ≡ length table₀) × (length work ≡ length work₀) × (length out ≡ length out₀) × (length texts ≡ length texts₀)
+Inv-loop fd chunk₀ line₀ table₀ work₀ out₀ texts₀ s₀ turns₀ chunk line table work out texts s turns =
+    Standing s chunk line table work out texts × (length chunk ≡ length chunk₀) × (length line ≡ length line₀) × (length table ≡ length table₀)
+    × (length work ≡ length work₀) × (length out ≡ length out₀) × (length texts ≡ length texts₀)
 
 abbrev μ-loop : tie.MeasureT-loop
 μ-loop fd chunk₀ line₀ table₀ work₀ out₀ texts₀ s₀ turns₀ chunk line table work out texts s turns = turns
@@ -17,10 +19,23 @@ new-requires : tie.Need-new-requires Inv-loop μ-loop
 new-requires c κs = search needs
 
 loop-holds : tie.Need-loop-holds Inv-loop μ-loop
-loop-holds c = (subst (λ (u : State). Standing u (c .before .before .before .before .before .before .before .args .chunk .now) (c .before .before .before .before .before .before .before .args .line .now) (c .before .before .before .before .before .before .before .args .table .now) (c .before .before .before .before .before .before .before .args .work .now) (c .before .before .before .before .before .before .before .args .out .now) (c .before .before .before .before .before .before .before .args .texts .now)) (sym (c .new .ensures)) (c .before .before .before .before .before .before .before .pre), refl, refl, refl, refl, refl, refl)
+loop-holds c =
+    let start = c .before .before .before .before .before .before .before in
+    let a = start .args in (
+      subst (λ (u : State). Standing u (a .chunk .now) (a .line .now) (a .table .now) (a .work .now) (a .out .now) (a .texts .now)) (sym (c .new .ensures))
+          (start .pre),
+      refl,
+      refl,
+      refl,
+      refl,
+      refl,
+      refl,
+    )
 
 turn-requires : tie.Need-turn-requires Inv-loop μ-loop
-turn-requires c κs = c .before .before .before .before .before .before .before .before .before .loop .inv .0
+turn-requires c κs =
+    let turn = c .before .before .before .before .before .before .before .before .before in
+    turn .loop .inv .0
 
 sub-turns : tie.Need-sub-turns Inv-loop μ-loop
 sub-turns c = search needs
@@ -29,7 +44,19 @@ loop-less : tie.Need-loop-less Inv-loop μ-loop
 loop-less c = search needs
 
 loop-again : tie.Need-loop-again Inv-loop μ-loop
-loop-again c = let v = c .before .before .before .before .before .before .before .before .before .before .before .before .before .before .before .before .before .before .before .before .before .before .loop .inv in let k = c .before .before .before .before .before .before .before .before .before .before .before .before .turn .kept in (c .before .before .before .before .before .before .before .before .before .before .before .before .turn .ensures, k .1 .0 ∙ v .1, k .1 .1 .0 ∙ v .2, k .1 .1 .1 .0 ∙ v .3, k .1 .1 .1 .1 .0 ∙ v .4, k .1 .1 .1 .1 .1 .0 ∙ v .5, k .1 .1 .1 .1 .1 .1 .0 ∙ v .6)
+loop-again c =
+    let after-turn = c .before .before .before .before .before .before .before .before .before .before .before .before in
+    let turn = after-turn .before .before .before .before .before .before .before .before .before .before in
+    let v = turn .loop .inv in
+    let k = after-turn .turn .kept in (
+      after-turn .turn .ensures,
+      k .1 .0 ∙ v .1,
+      k .1 .1 .0 ∙ v .2,
+      k .1 .1 .1 .0 ∙ v .3,
+      k .1 .1 .1 .1 .0 ∙ v .4,
+      k .1 .1 .1 .1 .1 .0 ∙ v .5,
+      k .1 .1 .1 .1 .1 .1 .0 ∙ v .6,
+    )
 
 same-length : tie.Need-same-length Inv-loop μ-loop
 same-length c = search needs

@@ -22,7 +22,9 @@ same-length : tie.Need-same-length
 same-length c = search needs
 
 returns : tie.Need-returns
-returns c = feeds (c .before .before .before .before .before .before .before .args .s) (c .before .before .before .before .before .before .before .args .chunk .now) (c .before .before .before .before .before .before .before .args .line .now) (c .before .before .gather .last .1 .0) (c .before .before .before .before .before .before .before .args .s .got - 0) (c .before .before .gather .result) (omega arith) (c .before .before .gather .ensures)
+returns c =
+    let a = c .before .before .before .before .before .before .before .args in
+    feeds _ _ _ _ (a .s .got - 0) _ (omega arith) (c .before .before .gather .ensures)
 
 pub take-bytes-spec : {M : Type 1} → statement M
 take-bytes-spec =

@@ -23,7 +23,12 @@ same-length-5 : tie.Need-same-length-5
 same-length-5 c = search needs
 
 returns : tie.Need-returns
-returns c = stands-line (c .before .before .before .before .before .before .before .before .before .before .before .before .before .before .before .before .before .before .before .before .before .args .s) (c .before .before .before .before .before .before .before .before .answer-line .result) (c .before .before .before .before .before .before .before .before .before .before .before .before .before .before .before .before .before .before .before .before .before .args .chunk .now) (c .before .before .before .before .before .before .before .before .before .before .before .before .before .before .before .before .before .before .before .before .before .args .line .now) (c .before .before .before .before .before .before .before .before .before .before .before .before .before .before .before .before .before .before .before .before .before .args .table .now) (c .before .before .before .before .before .before .before .before .before .before .before .before .before .before .before .before .before .before .before .before .before .args .work .now) (c .before .before .before .before .before .before .before .before .before .before .before .before .before .before .before .before .before .before .before .before .before .args .out .now) (c .before .before .before .before .before .before .before .before .before .before .before .before .before .before .before .before .before .before .before .before .before .args .texts .now) (c .before .before .before .before .before .before .before .before .before .before .before .before .before .before .before .before .before .before .before .before .before .pre) (c .before .before .before .before .before .before .before .before .answer-line .last .1 .0) (c .before .before .before .before .before .before .before .before .answer-line .last .1 .1 .0) (c .before .before .before .before .before .before .before .before .answer-line .last .1 .1 .1 .0) (c .before .before .before .before .before .before .before .before .answer-line .last .1 .1 .1 .1 .0) (c .before .before .before .before .before .before .before .before .answer-line .kept .1 .0) (c .before .before .before .before .before .before .before .before .answer-line .kept .1 .1 .0) (c .before .before .before .before .before .before .before .before .answer-line .kept .1 .1 .1 .0) (c .before .before .before .before .before .before .before .before .answer-line .kept .1 .1 .1 .1 .0) (c .before .before .before .before .before .before .before .before .answer-line .ensures)
+returns c =
+    let after-answer-line = c .before .before .before .before .before .before .before .before in
+    let start = after-answer-line .before .before .before .before .before .before .before .before .before .before .before .before .before in
+    let a = start .args in
+    stands-line _ _ _ _ (a .table .now) _ _ _ (start .pre) _ _ _ _ (after-answer-line .answer-line .kept .1 .0) (after-answer-line .answer-line .kept .1 .1 .0)
+    (after-answer-line .answer-line .kept .1 .1 .1 .0) (after-answer-line .answer-line .kept .1 .1 .1 .1 .0) (after-answer-line .answer-line .ensures)
 
 take-bytes-requires : tie.Need-take-bytes-requires
 take-bytes-requires c κs = search needs
@@ -35,13 +40,19 @@ same-length-7 : tie.Need-same-length-7
 same-length-7 c = search needs
 
 returns-2 : tie.Need-returns-2
-returns-2 c = stands-bytes (c .before .before .before .before .before .before .before .before .before .before .before .before .before .before .args .s) (c .before .before .take-bytes .result) (c .before .before .before .before .before .before .before .before .before .before .before .before .before .before .args .chunk .now) (c .before .before .before .before .before .before .before .before .before .before .before .before .before .before .args .line .now) (c .before .before .before .before .before .before .before .before .before .before .before .before .before .before .args .table .now) (c .before .before .before .before .before .before .before .before .before .before .before .before .before .before .args .work .now) (c .before .before .before .before .before .before .before .before .before .before .before .before .before .before .args .out .now) (c .before .before .before .before .before .before .before .before .before .before .before .before .before .before .args .texts .now) (c .before .before .before .before .before .before .before .before .before .before .before .before .before .before .pre) (c .before .before .take-bytes .last .1 .0) (c .before .before .take-bytes .kept .1 .0) (c .before .before .take-bytes .ensures)
+returns-2 c =
+    let start = c .before .before .before .before .before .before .before .before .before .before .before .before .before .before in
+    let a = start .args in
+    stands-bytes _ _ _ _ (a .table .now) _ _ _ (start .pre) _ (c .before .before .take-bytes .kept .1 .0) (c .before .before .take-bytes .ensures)
 
 finish-requires : tie.Need-finish-requires
 finish-requires c κs = search needs
 
 returns-3 : tie.Need-returns-3
-returns-3 c = stands-end (c .before .before .before .before .before .before .before .before .before .before .before .args .s) (c .finish .result) (c .before .before .before .before .before .before .before .before .before .before .before .args .chunk .now) (c .before .before .before .before .before .before .before .before .before .before .before .args .line .now) (c .before .before .before .before .before .before .before .before .before .before .before .args .table .now) (c .before .before .before .before .before .before .before .before .before .before .before .args .work .now) (c .before .before .before .before .before .before .before .before .before .before .before .args .out .now) (c .before .before .before .before .before .before .before .before .before .before .before .args .texts .now) (c .before .before .before .before .before .before .before .before .before .before .before .pre) (c .finish .ensures)
+returns-3 c =
+    let start = c .before .before .before .before .before .before .before .before .before .before .before in
+    let a = start .args in
+    stands-end _ _ _ _ (a .table .now) _ _ _ (start .pre) (c .finish .ensures)
 
 read-bytes-requires : tie.Need-read-bytes-requires
 read-bytes-requires c κs = search needs
@@ -50,7 +61,10 @@ same-length-8 : tie.Need-same-length-8
 same-length-8 c = search needs
 
 returns-4 : tie.Need-returns-4
-returns-4 c = stands-read (c .before .before .before .before .before .before .before .before .before .before .before .before .before .before .args .s) (c .before .before .read-bytes .result) (c .before .before .before .before .before .before .before .before .before .before .before .before .before .before .args .chunk .now) (c .before .before .before .before .before .before .before .before .before .before .before .before .before .before .args .line .now) (c .before .before .before .before .before .before .before .before .before .before .before .before .before .before .args .table .now) (c .before .before .before .before .before .before .before .before .before .before .before .before .before .before .args .work .now) (c .before .before .before .before .before .before .before .before .before .before .before .before .before .before .args .out .now) (c .before .before .before .before .before .before .before .before .before .before .before .before .before .before .args .texts .now) (c .before .before .before .before .before .before .before .before .before .before .before .before .before .before .pre) (c .before .before .read-bytes .last .1 .0) (c .before .before .read-bytes .kept .1 .0) (c .before .before .read-bytes .ensures)
+returns-4 c =
+    let start = c .before .before .before .before .before .before .before .before .before .before .before .before .before .before in
+    let a = start .args in
+    stands-read _ _ _ _ (a .table .now) _ _ _ (start .pre) _ (c .before .before .read-bytes .kept .1 .0) (c .before .before .read-bytes .ensures)
 
 pub turn-spec : {M : Type 1} → statement M
 turn-spec =

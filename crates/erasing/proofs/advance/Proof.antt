@@ -12,36 +12,47 @@ use Rattle.erasing.proofs.advance.Statement.{statement}
 use Rattle.erasing.proofs.advance.Tie as tie
 
 -- the first count of a
-count : (c : tie.After-count-of) → countOf (view (c .before .before .before .before .before .args .s) (c .before .before .before .before .before .args .t .now) .cells) (holder (view (c .before .before .before .before .before .args .s) (c .before .before .before .before .before .args .t .now)) (c .before .before .before .before .before .args .a)) ≡ c .count-of .result
-count c = sym (c .count-of .ensures .0 ∙ ap (countOf (view (c .before .before .before .before .before .args .s) (c .before .before .before .before .before .args .t .now) .cells)) (c .before .before .holder-of .ensures .0))
+count : (c : tie.After-count-of) →
+    let start = c .before .before .before .before .before in
+    let a = start .args in
+    countOf (view (a .s) (a .t .now) .cells) (holder (view (a .s) (a .t .now)) (a .a)) ≡ c .count-of .result
+count c =
+    let start = c .before .before .before .before .before in
+    sym (c .count-of .ensures .0 ∙ ap (countOf (view (start .args .s) (start .args .t .now) .cells)) (c .before .before .holder-of .ensures .0))
 
 holder-of-requires : tie.Need-holder-of-requires
 holder-of-requires c κs = search needs
 
 count-of-requires : tie.Need-count-of-requires
-count-of-requires c κs = (c .before .before .before .before .pre .0, rw (c .before .holder-of .ensures .0) (holder-head (c .before .before .before .before .args .s) (c .before .before .before .before .args .t .now) (c .before .before .before .before .pre .0) (c .before .before .before .before .pre .1 .1 .0) (c .before .before .before .before .args .a) (c .before .before .before .before .pre .1 .1 .1 .1) .cell))
+count-of-requires c κs =
+    let start = c .before .before .before .before in (
+      start .pre .0,
+      rw (c .before .holder-of .ensures .0)
+          (holder-head _ _ (start .pre .0) (start .pre .1 .1 .0) _ (start .pre .1 .1 .1 .1) .cell),
+    )
 
 behead-requires : tie.Need-behead-requires
 behead-requires c κs =
-    let c0 = c .before .before .before .before .before .before .before in
-    (c0 .pre .0, (c0 .pre .1 .0, (c0 .pre .1 .1 .0, (c0 .pre .1 .1 .1 .0, count (c .before .before) ∙ c .before .if1 .taken))))
+    let start = c .before .before .before .before .before .before .before in
+    (start .pre .0, (start .pre .1 .0, (start .pre .1 .1 .0, (start .pre .1 .1 .1 .0, count (c .before .before) ∙ c .before .if1 .taken))))
 
 same-length : tie.Need-same-length
 same-length c = search needs
 
 returns : tie.Need-returns
 returns c =
-    let c0 = c .before .before .before .before .before .before .before .before .before .before in
-    let a = c0 .args in
-    let p = view (a .s) (a .t .now) in
+    let then1 = c .before .before .before .before in
+    let start = then1 .before .before .before .before .before .before in
     said (c .before .before .behead .ensures)
-    (sym (adv-alone p (a .a) (a .b) (c0 .pre .1 .1 .0) (omega (arith, c0 .pre .0 .held, c0 .pre .1 .0 .0)) (omega (arith, c0 .pre .0 .held, c0 .pre .1 .0 .1)) (c0 .pre .1 .0 .2) (c0 .pre .1 .1 .1 .0) (holder-live p (a .a) (c0 .pre .1 .1 .0) (c0 .pre .1 .1 .1 .1)) (count (c .before .before .before .before .before) ∙ c .before .before .before .before .if1 .taken)))
+    (sym
+    (adv-alone _ _ _ (start .pre .1 .1 .0) (omega arith) (omega arith) (start .pre .1 .0 .2) (start .pre .1 .1 .1 .0)
+    (holder-live _ _ (start .pre .1 .1 .0) (start .pre .1 .1 .1 .1)) (count (then1 .before) ∙ then1 .if1 .taken)))
 
 step-off-requires : tie.Need-step-off-requires
 step-off-requires c κs =
-    let c0 = c .before .before .before .before .before .before .before in
-    let l = holder-live (view (c0 .args .s) (c0 .args .t .now)) (c0 .args .a) (c0 .pre .1 .1 .0) (c0 .pre .1 .1 .1 .1) in
-    (c0 .pre .0, (c0 .pre .1 .0, (c0 .pre .1 .1 .0, (c0 .pre .1 .1 .1 .0, omega (arith, l, count (c .before .before), c .before .if1 .left)))))
+    let start = c .before .before .before .before .before .before .before in
+    let l = holder-live _ (start .args .a) (start .pre .1 .1 .0) (start .pre .1 .1 .1 .1) in
+    (start .pre .0, (start .pre .1 .0, (start .pre .1 .1 .0, (start .pre .1 .1 .1 .0, omega (arith, l, count (c .before .before), c .before .if1 .left)))))
 
 same-length-2 : tie.Need-same-length-2
 same-length-2 c = search needs

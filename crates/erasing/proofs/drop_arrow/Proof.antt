@@ -13,7 +13,9 @@ count-of-requires : tie.Need-count-of-requires
 count-of-requires c κs = search needs
 
 sub-n : tie.Need-sub-n
-sub-n c = rw (c .count-of .ensures .0) (c .before .before .before .pre .1 .0 .counted (c .before .before .before .pre .1 .1))
+sub-n c =
+    let start = c .before .before .before in
+    rw (c .count-of .ensures .0) (start .pre .1 .0 .counted (start .pre .1 .1))
 
 next-of-requires : tie.Need-next-of-requires
 next-of-requires c κs = search needs
@@ -29,21 +31,23 @@ same-length c = search needs
 
 returns : tie.Need-returns
 returns c =
-    let c0 = c .before .before .before .before .before .before .before .before .before .before .before .before in
-    let a = c0 .args in
-    let r = c .before .before .before .before .before .before .before .before .before .count-of in
-    let y = c .before .before .before .before .before .before .before .next-of in
-    let k = c .before .before .before .before .before .kind-of in
-    drop-shared (a .s) (a .t .now) (a .e) (c0 .pre .1 .1) (r .result) (y .result) (k .result) (r .ensures .0) (y .ensures .0) (k .ensures) (c .if1 .taken) (c .before .before .before .set-count .ensures)
+    let after-kind-of = c .before .before .before .before .before in
+    let after-count-of = after-kind-of .before .before .before .before in
+    let r = after-count-of .count-of in
+    let y = after-kind-of .before .before .next-of in
+    let k = after-kind-of .kind-of in
+    drop-shared _ _ _ (after-count-of .before .before .before .pre .1 .1) _ _ _ (r .ensures .0) (y .ensures .0) (k .ensures) (c .if1 .taken)
+    (c .before .before .before .set-count .ensures)
 
 release-requires : tie.Need-release-requires
 release-requires c κs =
-    let c0 = c .before .before .before .before .before .before .before .before .before .before .before .before .before .before in
-    let k = c .before .before .before .before .before .set-count .ensures in (
+    let after-set-count = c .before .before .before .before .before in
+    let start = after-set-count .before .before .before .before .before .before .before .before .before in
+    let k = after-set-count .set-count .ensures in (
       k .table,
       (
-        record { low = c0 .pre .1 .1; high = omega (arith, c0 .pre .1 .0 .here-high, c0 .pre .0 .measured) },
-        rw (ap (λ (p : Pool). p .free) (k .is)) (omega (arith, c0 .pre .1 .0 .free-high, c0 .pre .0 .measured)),
+        record { low = start .pre .1 .1; high = omega arith },
+        rw (ap (λ (p : Pool). p .free) (k .is)) (omega arith),
       ),
     )
 
@@ -55,13 +59,17 @@ same-length-2 c = search needs
 
 returns-2 : tie.Need-returns-2
 returns-2 c =
-    let c0 = c .before .before .before .before .before .before .before .before .before .before .before .before .before .before .before .before .before .before in
-    let a = c0 .args in
-    let r = c .before .before .before .before .before .before .before .before .before .before .before .before .before .before .before .count-of in
-    let y = c .before .before .before .before .before .before .before .before .before .before .before .before .before .next-of in
-    let k = c .before .before .before .before .before .before .before .before .before .before .before .kind-of in
-    drop-atom (a .s) (a .t .now) (a .e) (c0 .pre .1 .1) (r .result) (y .result) (k .result) (r .ensures .0) (y .ensures .0) (k .ensures) (c .before .before .before .before .before .before .if1 .left) (c .before .before .before .before .before .if2 .taken)
-    (after (λ (q : Pool). putFree (a .e .here) (putNext (a .e .here) (q .free) q)) (c .before .before .before .before .before .before .before .before .before .set-count .ensures) (c .before .before .before .release .ensures))
+    let then2 = c .before .before .before .before .before in
+    let after-set-count = then2 .before .before .before .before in
+    let after-next-of = after-set-count .before .before .before .before in
+    let start = after-next-of .before .before .before .before .before in
+    let a = start .args in
+    let r = after-next-of .before .before .count-of in
+    let y = after-next-of .next-of in
+    let k = after-set-count .before .before .kind-of in
+    drop-atom _ _ _ (start .pre .1 .1) _ _ _ (r .ensures .0) (y .ensures .0) (k .ensures) (then2 .before .if1 .left) (then2 .if2 .taken)
+    (after (λ (q : Pool). putFree (a .e .here) (putNext (a .e .here) (q .free) q)) (after-set-count .set-count .ensures)
+    (c .before .before .before .release .ensures))
 
 set-next-requires : tie.Need-set-next-requires
 set-next-requires c κs = search needs
@@ -71,13 +79,16 @@ same-length-3 c = search needs
 
 returns-3 : tie.Need-returns-3
 returns-3 c =
-    let c0 = c .before .before .before .before .before .before .before .before .before .before .before .before .before .before .before .before .before in
-    let a = c0 .args in
-    let r = c .before .before .before .before .before .before .before .before .before .before .before .before .before .before .count-of in
-    let y = c .before .before .before .before .before .before .before .before .before .before .before .before .next-of in
-    let k = c .before .before .before .before .before .before .before .before .before .before .kind-of in
-    drop-list (a .s) (a .t .now) (a .e) (c0 .pre .1 .1) (r .result) (y .result) (k .result) (r .ensures .0) (y .ensures .0) (k .ensures) (c .before .before .before .before .before .if1 .left) (c .before .before .before .before .if2 .left)
-    (after (putNext (a .e .here) (a .e .waiting)) (c .before .before .before .before .before .before .before .before .set-count .ensures) (c .before .before .set-next .ensures))
+    let else2 = c .before .before .before .before in
+    let after-set-count = else2 .before .before .before .before in
+    let after-next-of = after-set-count .before .before .before .before in
+    let start = after-next-of .before .before .before .before .before in
+    let a = start .args in
+    let r = after-next-of .before .before .count-of in
+    let y = after-next-of .next-of in
+    let k = after-set-count .before .before .kind-of in
+    drop-list _ _ _ (start .pre .1 .1) _ _ _ (r .ensures .0) (y .ensures .0) (k .ensures) (else2 .before .if1 .left) (else2 .if2 .left)
+    (after (putNext (a .e .here) (a .e .waiting)) (after-set-count .set-count .ensures) (c .before .before .set-next .ensures))
 
 pub drop-arrow-spec : {M : Type 1} → statement M
 drop-arrow-spec =

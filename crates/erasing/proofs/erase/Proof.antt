@@ -17,9 +17,12 @@ holder-of-requires c κs = search needs
 
 drop-root-requires : tie.Need-drop-root-requires
 drop-root-requires c κs =
-    let c0 = c .before .before .before .before in
-    let a = c0 .args in
-    (c0 .pre .0, rw (c .before .holder-of .ensures .0) (holder-rooted (greatestCount (a .s)) (view (a .s) (a .t .now)) (a .a) (c0 .pre .1 .1) (omega (arith, c0 .pre .0 .held, c0 .pre .1 .0)) (omega (arith, c0 .pre .0 .held, c0 .pre .0 .measured))))
+    let start = c .before .before .before .before in (
+      start .pre .0,
+      rw (c .before .holder-of .ensures .0)
+          (holder-rooted (greatestCount _) _ _ (start .pre .1 .1) (omega arith)
+          (omega arith)),
+    )
 
 set-holder-requires : tie.Need-set-holder-requires
 set-holder-requires c κs = search needs
@@ -29,12 +32,14 @@ same-length c = search needs
 
 returns : tie.Need-returns
 returns c =
-    let a = c .before .before .before .before .before .before .before .before .before .before .before .args in
+    let after-drop-root = c .before .before .before .before .before .before in
+    let a = after-drop-root .before .before .before .before .before .args in
     let p = view (a .s) (a .t .now) in
-    let x = c .before .before .before .before .before .before .before .before .holder-of .ensures .0 in
-    let d = c .before .before .before .before .before .before .drop-root .ensures in (
-      d .0 ∙ ap (λ (y : ℕ). dropped (p .free) (p .cells) y .freed) x ∙ is-erase p (a .a) .1,
-      said (after (putHolder (a .a) 0) (d .1) (c .before .before .set-holder .ensures)) (ap (λ (y : ℕ). putHolder (a .a) 0 (less p y)) x ∙ is-erase p (a .a) .0),
+    let x = after-drop-root .before .before .holder-of .ensures .0 in
+    let d = after-drop-root .drop-root .ensures in (
+      d .0 ∙ ap (λ (y : ℕ). dropped (p .free) (p .cells) y .freed) x ∙ is-erase _ (a .a) .1,
+      said (after (putHolder (a .a) 0) (d .1) (c .before .before .set-holder .ensures))
+          (ap (λ (y : ℕ). putHolder (a .a) 0 (less p y)) x ∙ is-erase p (a .a) .0),
     )
 
 pub erase-spec : {M : Type 1} → statement M

@@ -17,8 +17,13 @@ abbrev μ-loop : tie.MeasureT-loop
 μ-loop s t₀ e₀ t e = total (view s t .cells)
 
 -- what the step to come asks
-fine : (c : tie.Then1 Inv-loop μ-loop) → Fine (greatestCount (c .before .before .before .before .args .s)) (state (c .before .before .before .before .args .s) (c .before .before .loop .t) (c .before .before .loop .e))
-fine c = fine-there _ (c .before .before .before .before .pre .1 .ends) (c .before .before .loop .inv .2) (halted-at _ (c .if1 .taken))
+fine : (c : tie.Then1 Inv-loop μ-loop) →
+    let turn = c .before .before in
+    let start = turn .before .before in
+    Fine (greatestCount (start .args .s)) (state (start .args .s) (turn .loop .t) (turn .loop .e))
+fine c =
+    let turn = c .before .before in
+    fine-there _ (turn .before .before .pre .1 .ends) (turn .loop .inv .2) (halted-at _ (c .if1 .taken))
 
 loop-holds : tie.Need-loop-holds Inv-loop μ-loop
 loop-holds c = (c .before .pre .0, refl, at-start)
@@ -28,17 +33,21 @@ drop-arrow-requires c κs = (c .before .before .before .loop .inv .0, (fine (c .
 
 loop-less : tie.Need-loop-less Inv-loop μ-loop
 loop-less c =
+    let then1 = c .before .before .before .before in
     let d = c .before .before .drop-arrow .ensures in
-    rw (ap (λ (w : Dropping). total (w .cells)) (d .is)) (step-total _ _ (fine (c .before .before .before .before)) (pos-of-ne-zero (c .before .before .before .before .if1 .taken)))
+    rw (ap (λ (w : Dropping). total (w .cells)) (d .is)) (step-total _ _ (fine then1) (pos-of-ne-zero (then1 .if1 .taken)))
 
 loop-again : tie.Need-loop-again Inv-loop μ-loop
 loop-again c =
+    let then1 = c .before .before .before .before in
     let d = c .before .before .drop-arrow .ensures in
-    let i = c .before .before .before .before .before .before .loop .inv in
-    (d .table, d .held ∙ i .1, one-more (i .2) (halted-at _ (c .before .before .before .before .if1 .taken)) (d .is))
+    let i = then1 .before .before .loop .inv in
+    (d .table, d .held ∙ i .1, one-more (i .2) (halted-at _ (then1 .if1 .taken)) (d .is))
 
 same-length : tie.Need-same-length Inv-loop μ-loop
-same-length c = c .before .before .loop .inv .0 .sized ∙ sym (c .before .before .before .before .pre .0 .sized)
+same-length c =
+    let turn = c .before .before in
+    turn .loop .inv .0 .sized ∙ sym (turn .before .before .pre .0 .sized)
 
 returns : tie.Need-returns Inv-loop μ-loop
 returns c =

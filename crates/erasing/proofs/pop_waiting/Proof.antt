@@ -24,11 +24,11 @@ same-length c = search needs
 
 returns : tie.Need-returns
 returns c =
-    let c0 = c .before .before .before .before .before .before .before .before .before .before in
-    let a = c0 .args in
-    let x = c .before .before .before .before .before .before .before .elem-of in
-    let y = c .before .before .before .before .before .next-of in
-    pop-one (a .t .now) (a .e) (x .result) (y .result) (c0 .pre .1 .1 .0) (c0 .pre .1 .1 .1) (x .ensures) (y .ensures .0) (c .before .before .before .release .ensures)
+    let after-next-of = c .before .before .before .before .before in
+    let start = after-next-of .before .before .before .before .before in
+    let x = after-next-of .before .before .elem-of in
+    let y = after-next-of .next-of in
+    pop-one _ _ _ _ (start .pre .1 .1 .0) (start .pre .1 .1 .1) (x .ensures) (y .ensures .0) (c .before .before .before .release .ensures)
 
 pub pop-waiting-spec : {M : Type 1} → statement M
 pop-waiting-spec =

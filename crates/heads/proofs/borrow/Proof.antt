@@ -3,7 +3,6 @@ use borrow.Author.Needs.{needs}
 use Rattle.cells.specs.Range.{holder-high, count-high}
 use Rattle.heads.specs.HeadLaws.{is-borrow}
 use Rattle.table.specs.Fields.{putHolder}
-use Rattle.table.specs.View.{view}
 use Rattle.table.specs.ViewLaws.{after, said}
 use Rattle.heads.proofs.borrow.Statement.{statement}
 use Rattle.heads.proofs.borrow.Tie as tie
@@ -13,24 +12,34 @@ holder-of-requires c κs = search needs
 
 share-requires : tie.Need-share-requires
 share-requires c κs =
-    let c0 = c .before .before .before .before in
-    let a = c0 .args in
-    (c0 .pre .0, (rw (c .before .holder-of .ensures .0) (holder-high (a .s) (a .t .now) (c0 .pre .0) (c0 .pre .1 .1 .0) (a .a)), count-high (a .s) (a .t .now) (c0 .pre .0) (c0 .pre .1 .1 .0) (a .b) _ (c0 .pre .1 .0 .1) (c0 .pre .1 .1 .1)))
+    let start = c .before .before .before .before in (
+      start .pre .0,
+      (
+        rw (c .before .holder-of .ensures .0) (holder-high _ _ (start .pre .0) (start .pre .1 .1 .0) _),
+        count-high _ _ (start .pre .0) (start .pre .1 .1 .0) _ _ (start .pre .1 .0 .1) (start .pre .1 .1 .1),
+      ),
+    )
 
 set-holder-requires : tie.Need-set-holder-requires
 set-holder-requires c κs =
-    let c0 = c .before .before .before .before .before .before .before .before in
-    let a = c0 .args in
-    (c .before .before .before .share .ensures .table, (c0 .pre .1 .0 .1, rw (c .before .before .before .before .before .holder-of .ensures .0) (holder-high (a .s) (a .t .now) (c0 .pre .0) (c0 .pre .1 .1 .0) (a .a))))
+    let after-share = c .before .before .before in
+    let start = after-share .before .before .before .before .before in (
+      after-share .share .ensures .table,
+      (
+        start .pre .1 .0 .1,
+        rw (after-share .before .before .holder-of .ensures .0) (holder-high _ _ (start .pre .0) (start .pre .1 .1 .0) _),
+      ),
+    )
 
 same-length : tie.Need-same-length
 same-length c = search needs
 
 returns : tie.Need-returns
 returns c =
-    let a = c .before .before .before .before .before .before .before .before .before .before .before .args in
-    let x = c .before .before .before .before .before .before .before .before .holder-of in
-    said (after (putHolder (a .b) (x .result)) (c .before .before .before .before .before .before .share .ensures) (c .before .before .set-holder .ensures)) (is-borrow (view (a .s) (a .t .now)) (a .a) (a .b) (x .result) (x .ensures .0))
+    let after-share = c .before .before .before .before .before .before in
+    let a = after-share .before .before .before .before .before .args in
+    let x = after-share .before .before .holder-of in
+    said (after (putHolder (a .b) (x .result)) (after-share .share .ensures) (c .before .before .set-holder .ensures)) (is-borrow _ _ _ _ (x .ensures .0))
 
 pub borrow-spec : {M : Type 1} → statement M
 borrow-spec =

@@ -9,10 +9,12 @@ use Rattle.heads.proofs.first.Statement.{statement}
 use Rattle.heads.proofs.first.Tie as tie
 
 -- the first cell of a
-head : (c : tie.After-holder-of) → Head (c .before .before .args .s) (view (c .before .before .args .s) (c .before .before .args .t .now) .cells) (c .holder-of .result)
+head : (c : tie.After-holder-of) →
+    let start = c .before .before in
+    Head (start .args .s) (view (start .args .s) (start .args .t .now) .cells) (c .holder-of .result)
 head c =
-    let c0 = c .before .before in
-    rw (c .holder-of .ensures .0) (holder-head (c0 .args .s) (c0 .args .t .now) (c0 .pre .0) (c0 .pre .1 .1 .0) (c0 .args .a) (c0 .pre .1 .1 .1))
+    let start = c .before .before in
+    rw (c .holder-of .ensures .0) (holder-head _ _ (start .pre .0) (start .pre .1 .1 .0) _ (start .pre .1 .1 .1))
 
 holder-of-requires : tie.Need-holder-of-requires
 holder-of-requires c κs = search needs
@@ -31,7 +33,9 @@ returns c =
     }
 
 elem-of-requires : tie.Need-elem-of-requires
-elem-of-requires c κs = (c .before .before .before .before .pre .0, head (c .before .before) .cell)
+elem-of-requires c κs =
+    let start = c .before .before .before .before in
+    (start .pre .0, head (c .before .before) .cell)
 
 returns-2 : tie.Need-returns-2
 returns-2 c =

@@ -4,7 +4,6 @@ use borrow.Author.Needs.{needs}
 use Rattle.cells.specs.Range.{spare, holder-high}
 use Rattle.heads.specs.HeadLaws.{is-pfl}
 use Rattle.table.specs.Fields.{putHolder}
-use Rattle.table.specs.View.{view}
 use Rattle.table.specs.ViewLaws.{after, said}
 use Rattle.heads.proofs.prefix_list.Statement.{statement}
 use Rattle.heads.proofs.prefix_list.Tie as tie
@@ -20,15 +19,23 @@ cast-new-cell c = search needs
 
 new-cell-requires : tie.Need-new-cell-requires
 new-cell-requires c κs =
-    let c0 = c .before .before .before .before .before .before in
-    let a = c0 .args in
-    (c0 .pre .0, (spare (a .s) (a .t .now) (c0 .pre .0) (c0 .pre .1 .1 .0) (c0 .pre .1 .1 .1), (omega arith, rw (c .before .before .before .holder-of .ensures .0) (holder-high (a .s) (a .t .now) (c0 .pre .0) (c0 .pre .1 .1 .0) (a .a)))))
+    let start = c .before .before .before .before .before .before in (
+      start .pre .0,
+      (
+        spare _ _ (start .pre .0) (start .pre .1 .1 .0) (start .pre .1 .1 .1),
+        (omega arith, rw (c .before .before .before .holder-of .ensures .0) (holder-high _ _ (start .pre .0) (start .pre .1 .1 .0) _)),
+      ),
+    )
 
 set-holder-requires : tie.Need-set-holder-requires
 set-holder-requires c κs =
-    let c0 = c .before .before .before .before .before .before .before .before .before .before in
-    let a = c0 .args in
-    (c .before .before .before .new-cell .ensures .1 .table, (c0 .pre .1 .0 .0, rw (c .before .before .before .new-cell .ensures .0) (spare (a .s) (a .t .now) (c0 .pre .0) (c0 .pre .1 .1 .0) (c0 .pre .1 .1 .1) .cell .high)))
+    let start = c .before .before .before .before .before .before .before .before .before .before in (
+      c .before .before .before .new-cell .ensures .1 .table,
+      (
+        start .pre .1 .0 .0,
+        rw (c .before .before .before .new-cell .ensures .0) (spare _ _ (start .pre .0) (start .pre .1 .1 .0) (start .pre .1 .1 .1) .cell .high),
+      ),
+    )
 
 set-holder-requires-2 : tie.Need-set-holder-requires-2
 set-holder-requires-2 c κs = search needs
@@ -38,10 +45,15 @@ same-length c = search needs
 
 returns : tie.Need-returns
 returns c =
-    let a = c .before .before .before .before .before .before .before .before .before .before .before .before .before .before .before .before .before .args in
-    let k = c .before .before .before .before .before .before .before .before .before .before .new-cell in
-    said (after (putHolder (a .b) 0) (after (putHolder (a .a) (k .result)) (k .ensures .1) (c .before .before .before .before .before .before .set-holder .ensures)) (c .before .before .set-holder2 .ensures))
-    (is-pfl (view (a .s) (a .t .now)) (a .a) (a .b) (k .result) (c .before .before .before .before .before .before .before .before .before .before .before .before .before .before .holder-of .result) (c .before .before .before .before .before .before .before .before .before .before .before .before .holder-of2 .result) (c .before .before .before .before .before .before .before .before .before .before .before .before .before .before .holder-of .ensures .0) (c .before .before .before .before .before .before .before .before .before .before .before .before .holder-of2 .ensures .0) (k .ensures .0))
+    let after-set-holder = c .before .before .before .before .before .before in
+    let after-new-cell = after-set-holder .before .before .before .before in
+    let a = after-new-cell .before .before .before .before .before .before .before .args in
+    let k = after-new-cell .new-cell in
+    said
+    (after (putHolder (a .b) 0) (after (putHolder (a .a) (k .result)) (k .ensures .1) (after-set-holder .set-holder .ensures))
+    (c .before .before .set-holder2 .ensures))
+    (is-pfl _ _ _ _ _ _ (after-new-cell .before .before .before .before .holder-of .ensures .0) (after-new-cell .before .before .holder-of2 .ensures .0)
+    (k .ensures .0))
 
 pub prefix-list-spec : {M : Type 1} → statement M
 prefix-list-spec =

@@ -1,191 +1,137 @@
 -- `ops::dispatch` meets its contract.
 use borrow.Author.Needs.{needs}
+use Prim.Native.Nat.{_<_}
 use mathlib.Core.Path.{_≡_, ap}
+use mathlib.Core.Logic.{_≢_}
+use mathlib.Core.Bool.{true}
+use Rattle.pool.specs.Pool.{Sound}
 use Rattle.pool.specs.Script.{usesB, Operation}
+use Rattle.table.specs.View.{holderCount, view, Table}
 use Rattle.ops.specs.Replies.{operation}
 use Rattle.ops.specs.WordLaws.{in-one, in-two, code-range, above, just}
 use Rattle.ops.proofs.dispatch.Statement.{statement}
 use Rattle.ops.proofs.dispatch.Tie as tie
 
+-- what is asked of an operation on one holder, and on two
+abbrev asked : tie.Start → Operation
+asked start = operation (start .args .code) (start .args .a) (start .args .b) (start .args .v)
+
+one : (start : tie.Start) →
+    let a = start .args in
+    Table (a .s) (a .t .now) × ((a .a < holderCount (a .s)) × Sound (view (a .s) (a .t .now)))
+one start = (start .pre .0, (in-one (start .pre .0) (asked start) (start .pre .1 .1), start .pre .1 .0))
+
+two : (start : tie.Start) →
+    usesB (start .args .code) ≡ true
+    → let a = start .args in Table (a .s) (a .t .now)
+    × (((a .a < holderCount (a .s)) × (a .b < holderCount (a .s)) × (a .a ≢ a .b)) × Sound (view (a .s) (a .t .now)))
+two start u = (start .pre .0, (in-two (start .pre .0) (asked start) (start .pre .1 .1) u, start .pre .1 .0))
+
 pfa-requires : tie.Need-pfa-requires
-pfa-requires c κs =
-    let c0 = c .before .before .before in
-    let a = c0 .args in
-    let o : Operation = operation (a .code) (a .a) (a .b) (a .v) in
-    (c0 .pre .0, (in-one (c0 .pre .0) o (c0 .pre .1 .1), c0 .pre .1 .0))
+pfa-requires c κs = one (c .before .before .before)
 
 pfl-requires : tie.Need-pfl-requires
-pfl-requires c κs =
-    let c0 = c .before .before .before in
-    let a = c0 .args in
-    let o : Operation = operation (a .code) (a .a) (a .b) (a .v) in
-    (c0 .pre .0, (in-two (c0 .pre .0) o (c0 .pre .1 .1) (ap usesB (c .before .match .keys2)), c0 .pre .1 .0))
+pfl-requires c κs = two (c .before .before .before) (ap usesB (c .before .match .keys2))
 
 decap-requires : tie.Need-decap-requires
-decap-requires c κs =
-    let c0 = c .before .before .before in
-    let a = c0 .args in
-    let o : Operation = operation (a .code) (a .a) (a .b) (a .v) in
-    (c0 .pre .0, (in-two (c0 .pre .0) o (c0 .pre .1 .1) (ap usesB (c .before .match .keys3)), c0 .pre .1 .0))
+decap-requires c κs = two (c .before .before .before) (ap usesB (c .before .match .keys3))
 
 adv-requires : tie.Need-adv-requires
-adv-requires c κs =
-    let c0 = c .before .before .before in
-    let a = c0 .args in
-    let o : Operation = operation (a .code) (a .a) (a .b) (a .v) in
-    (c0 .pre .0, (in-two (c0 .pre .0) o (c0 .pre .1 .1) (ap usesB (c .before .match .keys4)), c0 .pre .1 .0))
+adv-requires c κs = two (c .before .before .before) (ap usesB (c .before .match .keys4))
 
 borrow-requires : tie.Need-borrow-requires
-borrow-requires c κs =
-    let c0 = c .before .before .before in
-    let a = c0 .args in
-    let o : Operation = operation (a .code) (a .a) (a .b) (a .v) in
-    (c0 .pre .0, (in-two (c0 .pre .0) o (c0 .pre .1 .1) (ap usesB (c .before .match .keys5)), c0 .pre .1 .0))
+borrow-requires c κs = two (c .before .before .before) (ap usesB (c .before .match .keys5))
 
 erase-requires : tie.Need-erase-requires
-erase-requires c κs =
-    let c0 = c .before .before .before in
-    let a = c0 .args in
-    let o : Operation = operation (a .code) (a .a) (a .b) (a .v) in
-    (c0 .pre .0, (in-one (c0 .pre .0) o (c0 .pre .1 .1), c0 .pre .1 .0))
+erase-requires c κs = one (c .before .before .before)
 
 inv-requires : tie.Need-inv-requires
-inv-requires c κs =
-    let c0 = c .before .before .before in
-    let a = c0 .args in
-    let o : Operation = operation (a .code) (a .a) (a .b) (a .v) in
-    (c0 .pre .0, (in-one (c0 .pre .0) o (c0 .pre .1 .1), c0 .pre .1 .0))
+inv-requires c κs = one (c .before .before .before)
 
 cinv-requires : tie.Need-cinv-requires
-cinv-requires c κs =
-    let c0 = c .before .before .before in
-    let a = c0 .args in
-    let o : Operation = operation (a .code) (a .a) (a .b) (a .v) in
-    (c0 .pre .0, (in-two (c0 .pre .0) o (c0 .pre .1 .1) (ap usesB (c .before .match .keys8)), c0 .pre .1 .0))
+cinv-requires c κs = two (c .before .before .before) (ap usesB (c .before .match .keys8))
 
 conc-requires : tie.Need-conc-requires
-conc-requires c κs =
-    let c0 = c .before .before .before in
-    let a = c0 .args in
-    let o : Operation = operation (a .code) (a .a) (a .b) (a .v) in
-    (c0 .pre .0, (in-two (c0 .pre .0) o (c0 .pre .1 .1) (ap usesB (c .before .match .keys9)), c0 .pre .1 .0))
+conc-requires c κs = two (c .before .before .before) (ap usesB (c .before .match .keys9))
 
 first-requires : tie.Need-first-requires
-first-requires c κs =
-    let c0 = c .before .before .before in
-    let a = c0 .args in
-    let o : Operation = operation (a .code) (a .a) (a .b) (a .v) in
-    (c0 .pre .0, (in-one (c0 .pre .0) o (c0 .pre .1 .1), c0 .pre .1 .0))
+first-requires c κs = one (c .before .before .before)
 
 length-requires : tie.Need-length-requires
-length-requires c κs =
-    let c0 = c .before .before .before in
-    let a = c0 .args in
-    let o : Operation = operation (a .code) (a .a) (a .b) (a .v) in
-    (c0 .pre .0, (in-one (c0 .pre .0) o (c0 .pre .1 .1), c0 .pre .1 .0))
+length-requires c κs = one (c .before .before .before)
 
 same-length : tie.Need-same-length
 same-length c = search needs
 
 returns : tie.Need-returns
-returns c =
-    let c0 = c .before .before .before .before .before .before in
-    let a = c0 .args in
-    rw (c .before .before .before .before .match .keys1) (c .before .before .pfa .ensures (a .b))
+returns c = rw (c .before .before .before .before .match .keys1) (c .before .before .pfa .ensures _)
 
 same-length-2 : tie.Need-same-length-2
 same-length-2 c = search needs
 
 returns-2 : tie.Need-returns-2
-returns-2 c =
-    let c0 = c .before .before .before .before .before .before in
-    let a = c0 .args in
-    rw (c .before .before .before .before .match .keys2) (c .before .before .pfl .ensures (a .v))
+returns-2 c = rw (c .before .before .before .before .match .keys2) (c .before .before .pfl .ensures _)
 
 same-length-3 : tie.Need-same-length-3
 same-length-3 c = search needs
 
 returns-3 : tie.Need-returns-3
-returns-3 c =
-    let c0 = c .before .before .before .before .before .before in
-    let a = c0 .args in
-    rw (c .before .before .before .before .match .keys3) (c .before .before .decap .ensures (a .v))
+returns-3 c = rw (c .before .before .before .before .match .keys3) (c .before .before .decap .ensures _)
 
 same-length-4 : tie.Need-same-length-4
 same-length-4 c = search needs
 
 returns-4 : tie.Need-returns-4
-returns-4 c =
-    let c0 = c .before .before .before .before .before .before in
-    let a = c0 .args in
-    rw (c .before .before .before .before .match .keys4) (c .before .before .adv .ensures (a .v))
+returns-4 c = rw (c .before .before .before .before .match .keys4) (c .before .before .adv .ensures _)
 
 same-length-5 : tie.Need-same-length-5
 same-length-5 c = search needs
 
 returns-5 : tie.Need-returns-5
-returns-5 c =
-    let c0 = c .before .before .before .before .before .before in
-    let a = c0 .args in
-    rw (c .before .before .before .before .match .keys5) (c .before .before .borrow .ensures (a .v))
+returns-5 c = rw (c .before .before .before .before .match .keys5) (c .before .before .borrow .ensures _)
 
 same-length-6 : tie.Need-same-length-6
 same-length-6 c = search needs
 
 returns-6 : tie.Need-returns-6
-returns-6 c =
-    let c0 = c .before .before .before .before .before .before in
-    let a = c0 .args in
-    rw (c .before .before .before .before .match .keys6) (c .before .before .erase .ensures (a .b) (a .v))
+returns-6 c = rw (c .before .before .before .before .match .keys6) (c .before .before .erase .ensures _ _)
 
 same-length-7 : tie.Need-same-length-7
 same-length-7 c = search needs
 
 returns-7 : tie.Need-returns-7
-returns-7 c =
-    let c0 = c .before .before .before .before .before .before in
-    let a = c0 .args in
-    rw (c .before .before .before .before .match .keys7) (c .before .before .inv .ensures (a .b) (a .v))
+returns-7 c = rw (c .before .before .before .before .match .keys7) (c .before .before .inv .ensures _ _)
 
 same-length-8 : tie.Need-same-length-8
 same-length-8 c = search needs
 
 returns-8 : tie.Need-returns-8
-returns-8 c =
-    let c0 = c .before .before .before .before .before .before in
-    let a = c0 .args in
-    rw (c .before .before .before .before .match .keys8) (c .before .before .cinv .ensures (a .v))
+returns-8 c = rw (c .before .before .before .before .match .keys8) (c .before .before .cinv .ensures _)
 
 same-length-9 : tie.Need-same-length-9
 same-length-9 c = search needs
 
 returns-9 : tie.Need-returns-9
-returns-9 c =
-    let c0 = c .before .before .before .before .before .before in
-    let a = c0 .args in
-    rw (c .before .before .before .before .match .keys9) (c .before .before .conc .ensures (a .v))
+returns-9 c = rw (c .before .before .before .before .match .keys9) (c .before .before .conc .ensures _)
 
 same-length-10 : tie.Need-same-length-10
 same-length-10 c = search needs
 
 returns-10 : tie.Need-returns-10
-returns-10 c =
-    let c0 = c .before .before .before .before .before .before in
-    let a = c0 .args in
-    rw (c .before .before .before .before .match .keys10) (c .before .before .first .ensures (a .b) (a .v))
+returns-10 c = rw (c .before .before .before .before .match .keys10) (c .before .before .first .ensures _ _)
 
 same-length-11 : tie.Need-same-length-11
 same-length-11 c = search needs
 
 returns-11 : tie.Need-returns-11
 returns-11 c =
-    let c0 = c .before .before .before .before .before .before in
-    let a = c0 .args in
-    let o : Operation = operation (a .code) (a .a) (a .b) (a .v) in
-    let k = code-range o (c0 .pre .1 .1 .coded) in
-    let r = c .before .before .before .before .match .rest in
-    let e : a .code ≡ 11 = just (a .code) 11 (above (a .code) 10 (above (a .code) 9 (above (a .code) 8 (above (a .code) 7 (above (a .code) 6 (above (a .code) 5 (above (a .code) 4 (above (a .code) 3 (above (a .code) 2 (above (a .code) 1 (k .0) (r .0 .0 .0 .0 .0 .0 .0 .0 .0 .1)) (r .0 .0 .0 .0 .0 .0 .0 .0 .1)) (r .0 .0 .0 .0 .0 .0 .0 .1)) (r .0 .0 .0 .0 .0 .0 .1)) (r .0 .0 .0 .0 .0 .1)) (r .0 .0 .0 .0 .1)) (r .0 .0 .0 .1)) (r .0 .0 .1)) (r .0 .1)) (r .1)) (k .1) in
-    rw e (c .before .before .length .ensures (a .b) (a .v))
+    let at-match = c .before .before .before .before in
+    let start = at-match .before .before in
+    let k = code-range (asked start) (start .pre .1 .1 .coded) in
+    let r = at-match .match .rest in
+    let six = above _ 5 (above _ 4 (above _ 3 (above _ 2 (above _ 1 (k .0) (r .0 .0 .0 .0 .0 .0 .0 .0 .0 .1)) (r .0 .0 .0 .0 .0 .0 .0 .0 .1)) (r .0 .0 .0 .0 .0 .0 .0 .1)) (r .0 .0 .0 .0 .0 .0 .1)) (r .0 .0 .0 .0 .0 .1) in
+    let e = just _ 11 (above _ 10 (above _ 9 (above _ 8 (above _ 7 (above _ 6 six (r .0 .0 .0 .0 .1)) (r .0 .0 .0 .1)) (r .0 .0 .1)) (r .0 .1)) (r .1)) (k .1) in
+    rw e (c .before .before .length .ensures _ _)
 
 pub dispatch-spec : {M : Type 1} → statement M
 dispatch-spec =

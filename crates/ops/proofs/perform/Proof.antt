@@ -16,21 +16,21 @@ early-requires c κs = search needs
 
 returns : tie.Need-returns
 returns c =
-    let c0 = c .before .before .before in
-    let a = c0 .args in
+    let start = c .before .before .before in
+    let a = start .args in
     let o : Operation = operation (a .code) (a .a) (a .b) (a .v) in
     let p : Pool = view (a .s) (a .t .now) in
     let e = c .before .early .ensures (a .v) in
-    let h = c0 .pre .0 .held in
-    refuses o (c .before .early .result) (c0 .pre .0) (early-refused p o (rw h (λ q. c .if1 .taken (e ∙ q))) ∙ rw h (sym e)) (omega (arith, c .if1 .taken))
+    let h = start .pre .0 .held in
+    refuses o (c .before .early .result) (start .pre .0) (early-refused p o (rw h (λ q. c .if1 .taken (e ∙ q))) ∙ rw h (sym e)) (omega arith)
 
 dispatch-requires : tie.Need-dispatch-requires
 dispatch-requires c κs =
-    let c0 = c .before .before .before .before in
-    let a = c0 .args in
+    let start = c .before .before .before .before in
+    let a = start .args in
     let o : Operation = operation (a .code) (a .a) (a .b) (a .v) in
     let p : Pool = view (a .s) (a .t .now) in
-    (c0 .pre .0, (c0 .pre .1, early-passed p o (rw (c0 .pre .0 .held) (sym (c .before .before .early .ensures (a .v)) ∙ c .before .if1 .left))))
+    (start .pre .0, (start .pre .1, early-passed p o (rw (start .pre .0 .held) (sym (c .before .before .early .ensures (a .v)) ∙ c .before .if1 .left))))
 
 same-length : tie.Need-same-length
 same-length c = search needs

@@ -27,7 +27,14 @@ returns-6 c = ap usesB (sym (c .match .keys6))
 returns-7 : tie.Need-returns-7
 returns-7 c =
     let k = c .before .args .code in
-    rw (ne-eqb k 2 (λ q. omega (arith, c .match .rest)), ne-eqb k 3 (λ q. omega (arith, c .match .rest)), ne-eqb k 4 (λ q. omega (arith, c .match .rest)), ne-eqb k 5 (λ q. omega (arith, c .match .rest)), ne-eqb k 8 (λ q. omega (arith, c .match .rest)), ne-eqb k 9 (λ q. omega (arith, c .match .rest))) refl
+    rw (
+      ne-eqb k 2 (λ q. omega arith),
+      ne-eqb k 3 (λ q. omega arith),
+      ne-eqb k 4 (λ q. omega arith),
+      ne-eqb k 5 (λ q. omega arith),
+      ne-eqb k 8 (λ q. omega arith),
+      ne-eqb k 9 (λ q. omega arith),
+    ) refl
 
 pub uses-b-spec : {M : Type 1} → statement M
 uses-b-spec =

@@ -1,6 +1,6 @@
 -- `setup::link` meets its contract.
 use Prim.Native.Nat.{ℕ, _+_, _-_, _≤_}
-use mathlib.Core.Path.{_≡_, refl, ap, sym, _∙_}
+use mathlib.Core.Path.{_≡_, refl, ap, _∙_}
 use mathlib.Core.List.{List}
 use native.Mathlib.Omega.{arith}
 use borrow.Author.Needs.{needs}
@@ -20,14 +20,15 @@ abbrev μ-loop : tie.MeasureT-loop
 
 loop-holds : tie.Need-loop-holds Inv-loop μ-loop
 loop-holds c =
-    let a = c .before .args in
-    (refl, omega arith, c .before .pre .0 .some, said (itself (c .before .pre .0)) (ap (λ (cs : List Cell). celled cs (view (a .s) (a .t .now))) (c .before .pre .1)))
+    let start = c .before in
+    let a = start .args in
+    (refl, omega arith, start .pre .0 .some, said (itself (start .pre .0)) (ap (λ (cs : List Cell). celled cs (view (a .s) (a .t .now))) (start .pre .1)))
 
 add-set-next : tie.Need-add-set-next Inv-loop μ-loop
 add-set-next c = search needs
 
 set-next-requires : tie.Need-set-next-requires Inv-loop μ-loop
-set-next-requires c κs = (c .before .before .loop .inv .3 .table, (record { low = c .before .before .loop .inv .1; high = omega arith }, omega arith))
+set-next-requires c κs = search needs
 
 add-c : tie.Need-add-c Inv-loop μ-loop
 add-c c = search needs
@@ -37,19 +38,25 @@ loop-less c = search needs
 
 loop-again : tie.Need-loop-again Inv-loop μ-loop
 loop-again c =
-    let a = c .before .before .before .before .before .before .before .args in
-    let i = c .before .before .before .before .before .loop .c in
-    let v = c .before .before .before .before .before .loop .inv in
-    (v .0, omega arith, omega arith, said (after (putNext i (i + 1)) (v .3) (c .before .before .set-next .ensures)) (ap (λ (cs : List Cell). celled cs (view (a .s) (a .t .now))) (linked-step i (a .s .cells) (v .1) (omega arith))))
+    let turn = c .before .before .before .before .before in
+    let a = turn .before .before .args in
+    let i = turn .loop .c in
+    let v = turn .loop .inv in (
+      v .0,
+      omega arith,
+      omega arith,
+      said (after (putNext i (i + 1)) (v .3) (c .before .before .set-next .ensures))
+          (ap (λ (cs : List Cell). celled cs (view (a .s) (a .t .now))) (linked-step i _ (v .1) (omega arith))),
+    )
 
 same-length : tie.Need-same-length Inv-loop μ-loop
-same-length c = c .before .loop .inv .3 .table .sized ∙ sym (c .before .before .before .pre .0 .sized)
+same-length c = search needs
 
 returns : tie.Need-returns Inv-loop μ-loop
 returns c =
     let a = c .before .before .before .args in
     let q : c .before .loop .c ≡ a .s .cells = omega arith in
-    said (c .before .loop .inv .3) (ap (λ (cs : List Cell). celled cs (view (a .s) (a .t .now))) (ap (λ (k : ℕ). linked k (a .s .cells)) q ∙ linked-all (a .s .cells)))
+    said (c .before .loop .inv .3) (ap (λ (cs : List Cell). celled cs (view (a .s) (a .t .now))) (ap (λ (k : ℕ). linked k (a .s .cells)) q ∙ linked-all _))
 
 pub link-spec : {M : Type 1} → statement M
 link-spec =

@@ -4,7 +4,7 @@ use native.Mathlib.Omega.{arith}
 use lib.ListN.{length}
 use borrow.Author.Tests.{not-true, not-false}
 use borrow.Author.Needs.{needs}
-use Rattle.table.specs.View.{shape, Table}
+use Rattle.table.specs.View.{Table}
 use Rattle.table.specs.SizesLaws.{fits-told, cleared-length}
 use Rattle.setup.specs.SetUpLaws.{refuses, zeroed, headed-table, unlinked, sets-up, made}
 use Rattle.setup.proofs.set_up.Statement.{statement}
@@ -14,30 +14,51 @@ fits-requires : tie.Need-fits-requires
 fits-requires c κs = search needs
 
 returns : tie.Need-returns
-returns c = refuses (c .before .before .before .args .t .now) (c .before .before .before .args .n) (sym (c .before .fits2 .ensures) ∙ not-true _ (c .if1 .taken))
+returns c = refuses _ _ (sym (c .before .fits2 .ensures) ∙ not-true _ (c .if1 .taken))
 
 clear-requires : tie.Need-clear-requires
 clear-requires c κs = search needs
 
 slice-write-t : tie.Need-slice-write-t
-slice-write-t c = omega (arith, ap length (c .before .before .clear .ensures), cleared-length (c .before .before .before .before .before .before .before .args .t .now) (length (c .before .before .before .before .before .before .before .args .t .now)) (omega arith), (fits-told (c .before .before .before .before .before .before .before .args .n) (length (c .before .before .before .before .before .before .before .args .t .now)) (sym (c .before .before .before .before .before .fits2 .ensures) ∙ not-false _ (c .before .before .before .before .if1 .left))) .long)
+slice-write-t c =
+    let else1 = c .before .before .before .before in
+    let a = else1 .before .before .before .args in
+    omega (
+      arith,
+      ap length (c .before .before .clear .ensures),
+      cleared-length (a .t .now) (length (a .t .now)) (omega arith),
+      (fits-told (a .n) (length (a .t .now)) (sym (else1 .before .fits2 .ensures) ∙ not-false _ (else1 .if1 .left))) .long,
+    )
 
 set-free-requires : tie.Need-set-free-requires
 set-free-requires c κs =
-    let f = fits-told (c .before .before .before .before .before .before .before .before .args .n) (length (c .before .before .before .before .before .before .before .before .args .t .now)) (sym (c .before .before .before .before .before .before .fits2 .ensures) ∙ not-false _ (c .before .before .before .before .before .if1 .left)) in
-    (subst (Table (shape (c .before .before .before .before .before .before .before .before .args .n))) (sym (zeroed (c .before .before .before .before .before .before .before .before .args .t .now) (c .before .before .before .before .before .before .before .before .args .n) (c .before .before .before .clear .ensures))) (headed-table (c .before .before .before .before .before .before .before .before .args .n) (length (c .before .before .before .before .before .before .before .before .args .t .now)) f), f .some)
+    let else1 = c .before .before .before .before .before in
+    let a = else1 .before .before .before .args in
+    let f = fits-told _ _ (sym (else1 .before .fits2 .ensures) ∙ not-false _ (else1 .if1 .left)) in (
+      subst (Table _) (sym (zeroed (a .t .now) _ (c .before .before .before .clear .ensures))) (headed-table _ _ f),
+      f .some,
+    )
 
 link-requires : tie.Need-link-requires
-link-requires c κs = (c .before .before .before .set-free .ensures .table, unlinked (c .before .before .before .before .before .before .before .before .before .before .before .before .args .n) (length (c .before .before .before .before .before .before .before .before .before .before .before .before .args .t .now)) (zeroed (c .before .before .before .before .before .before .before .before .before .before .before .before .args .t .now) (c .before .before .before .before .before .before .before .before .before .before .before .before .args .n) (c .before .before .before .before .before .before .before .clear .ensures)) (c .before .before .before .set-free .ensures))
+link-requires c κs =
+    let after-clear = c .before .before .before .before .before .before .before in
+    let a = after-clear .before .before .before .before .before .args in (
+      c .before .before .before .set-free .ensures .table,
+      unlinked _ (length (a .t .now)) (zeroed (a .t .now) _ (after-clear .clear .ensures)) (c .before .before .before .set-free .ensures),
+    )
 
 same-length : tie.Need-same-length
-same-length c = c .before .before .link .ensures .table .sized ∙ sym ((fits-told (c .before .before .before .before .before .before .before .before .before .before .before .before .before .before .before .args .n) (length (c .before .before .before .before .before .before .before .before .before .before .before .before .before .before .before .args .t .now)) (sym (c .before .before .before .before .before .before .before .before .before .before .before .before .before .fits2 .ensures) ∙ not-false _ (c .before .before .before .before .before .before .before .before .before .before .before .before .if1 .left))) .long)
+same-length c =
+    let else1 = c .before .before .before .before .before .before .before .before .before .before .before .before in
+    c .before .before .link .ensures .table .sized ∙ sym ((fits-told _ _ (sym (else1 .before .fits2 .ensures) ∙ not-false _ (else1 .if1 .left))) .long)
 
 returns-2 : tie.Need-returns-2
 returns-2 c =
-    let a = c .before .before .before .before .before .before .before .before .before .before .before .before .before .before .before .args in
-    sets-up (a .t .now) (a .n) (sym (c .before .before .before .before .before .before .before .before .before .before .before .before .before .fits2 .ensures) ∙ not-false _ (c .before .before .before .before .before .before .before .before .before .before .before .before .if1 .left))
-    (made (a .n) (length (a .t .now)) (zeroed (c .before .before .before .before .before .before .before .before .before .before .before .before .before .before .before .args .t .now) (c .before .before .before .before .before .before .before .before .before .before .before .before .before .before .before .args .n) (c .before .before .before .before .before .before .before .before .before .before .clear .ensures)) (c .before .before .before .before .before .before .set-free .ensures) (c .before .before .link .ensures))
+    let after-set-free = c .before .before .before .before .before .before in
+    let after-clear = after-set-free .before .before .before .before in
+    let a = after-clear .before .before .before .before .before .args in
+    sets-up _ _ (sym (after-clear .before .before .before .fits2 .ensures) ∙ not-false _ (after-clear .before .before .if1 .left))
+    (made _ (length (a .t .now)) (zeroed (a .t .now) _ (after-clear .clear .ensures)) (after-set-free .set-free .ensures) (c .before .before .link .ensures))
 
 pub set-up-spec : {M : Type 1} → statement M
 set-up-spec =

@@ -21,37 +21,27 @@ free-head-requires : tie.Need-free-head-requires Inv-loop μ-loop
 free-head-requires c κs = search needs
 
 loop-holds : tie.Need-loop-holds Inv-loop μ-loop
-loop-holds c =
-    let c0 = c .before .before in
-    let a = c0 .args in
-    ap (chained (a .free) (view (a .s) (a .t .now) .cells)) (c .free-head .ensures .0)
+loop-holds c = ap (chained _ _) (c .free-head .ensures .0)
 
 returns : tie.Need-returns Inv-loop μ-loop
 returns c =
-    let k = c .before .before .before in
-    let c0 = k .before .before .before in
-    let a = c0 .args in
-    sym (sym (k .loop .inv) ∙ stop-far (k .loop .left) (view (a .s) (a .t .now) .cells) (k .loop .x) (omega (arith, c0 .pre .measured)))
+    let turn = c .before .before .before in
+    sym (sym (turn .loop .inv) ∙ stop-far (turn .loop .left) _ _ (omega arith))
 
 count-of-requires : tie.Need-count-of-requires Inv-loop μ-loop
 count-of-requires c κs = search needs
 
 returns-2 : tie.Need-returns-2 Inv-loop μ-loop
 returns-2 c =
-    let r = c .before in
-    let l = r .before .before .before in
-    let k = l .before in
-    let c0 = k .before .before .before in
-    let a = c0 .args in
-    sym (sym (k .loop .inv) ∙ stop-live (k .loop .left) (view (a .s) (a .t .now) .cells) (k .loop .x) (r .count-of .result) (l .loop-test .taken) (omega (arith, c0 .pre .measured)) (r .count-of .ensures .0) (c .if2 .taken))
+    let in-loop = c .before .before .before .before in
+    let turn = in-loop .before in
+    sym (sym (turn .loop .inv) ∙ stop-live (turn .loop .left) _ _ _ (in-loop .loop-test .taken) (omega arith) (c .before .count-of .ensures .0) (c .if2 .taken))
 
 returns-3 : tie.Need-returns-3 Inv-loop μ-loop
 returns-3 c =
-    let l = c .before .before .before .before .before in
-    let k = l .before in
-    let c0 = k .before .before .before in
-    let a = c0 .args in
-    sym (sym (k .loop .inv) ∙ stop-long (k .loop .left) (view (a .s) (a .t .now) .cells) (k .loop .x) (l .loop-test .taken) (c .if3 .taken))
+    let in-loop = c .before .before .before .before .before in
+    let turn = in-loop .before in
+    sym (sym (turn .loop .inv) ∙ stop-long (turn .loop .left) _ _ (in-loop .loop-test .taken) (c .if3 .taken))
 
 next-of-requires : tie.Need-next-of-requires Inv-loop μ-loop
 next-of-requires c κs = search needs
@@ -64,22 +54,14 @@ loop-less c = search needs
 
 loop-again : tie.Need-loop-again Inv-loop μ-loop
 loop-again c =
-    let t = c .before in
-    let r = t .before .before in
-    let l = r .before .before .before in
-    let k = l .before in
-    let c0 = k .before .before .before in
-    let a = c0 .args in
-    ap (chained (k .loop .left - 1) (view (a .s) (a .t .now) .cells)) (c .next-of .ensures .0)
-    ∙ go-on (k .loop .left) (view (a .s) (a .t .now) .cells) (k .loop .x) (r .count-of .result) (l .loop-test .taken) (omega (arith, c0 .pre .measured)) (r .count-of .ensures .0) (omega arith) (t .if3 .left)
-    ∙ k .loop .inv
+    let in-loop = c .before .before .before .before .before .before in
+    let turn = in-loop .before in
+    ap (chained (turn .loop .left - 1) _) (c .next-of .ensures .0)
+    ∙ go-on (turn .loop .left) _ _ _ (in-loop .loop-test .taken) (omega arith) (c .before .before .before .count-of .ensures .0) (omega arith)
+    (c .before .if3 .left) ∙ turn .loop .inv
 
 returns-4 : tie.Need-returns-4 Inv-loop μ-loop
-returns-4 c =
-    let k = c .before in
-    let c0 = k .before .before .before in
-    let a = c0 .args in
-    at-end (k .loop .left) (view (a .s) (a .t .now) .cells) (k .loop .x) (omega arith) ∙ k .loop .inv
+returns-4 c = at-end (c .before .loop .left) _ _ (omega arith) ∙ c .before .loop .inv
 
 pub chain-holds-spec : {M : Type 1} → statement M
 chain-holds-spec =

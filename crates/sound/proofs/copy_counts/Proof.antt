@@ -34,21 +34,13 @@ mul-w : tie.Need-mul-w Inv-loop μ-loop
 mul-w c = search needs
 
 slice-write-w : tie.Need-slice-write-w Inv-loop μ-loop
-slice-write-w c =
-    let k = c .before .before in
-    let c0 = k .before .before .before in
-    omega (arith, k .loop .inv .1 .within .size, c0 .pre .1)
+slice-write-w c = search needs
 
 one-if-none-requires : tie.Need-one-if-none-requires Inv-loop μ-loop
 one-if-none-requires c κs = search needs
 
 add-free : tie.Need-add-free Inv-loop μ-loop
-add-free c =
-    let r = c .before in
-    let k = r .before .before in
-    let c0 = k .before .before .before in
-    let i = k .loop .inv in
-    omega (arith, i .1 .few, i .1 .low, i .0, c0 .pre .0 .few, same-le (r .count-of .result) 0)
+add-free c = omega (arith, same-le (c .before .count-of .result) 0)
 
 add-i : tie.Need-add-i Inv-loop μ-loop
 add-i c = search needs
@@ -58,28 +50,27 @@ loop-less c = search needs
 
 loop-again : tie.Need-loop-again Inv-loop μ-loop
 loop-again c =
-    let r = c .before in
-    let l = r .before in
-    let k = l .before in
-    let c0 = k .before .before .before in
-    let a = c0 .args in
-    let i = k .loop .inv in
-    (i .0, copy-step _ (view (a .s) (a .t .now) .cells) (a .w .now) (k .loop .w) (k .loop .i) (k .loop .free) (r .count-of .result) (c .one-if-none .result) (omega (arith, i .0, c0 .pre .1)) (l .loop-test .taken) (i .1) (r .count-of .ensures .0) (c .one-if-none .ensures))
+    let i = c .before .before .before .loop .inv in (
+      i .0,
+      copy-step _ _ _ _ _ _ _
+          _ (omega arith) (c .before .before .loop-test .taken) (i .1) (c .before .count-of .ensures .0)
+          (c .one-if-none .ensures),
+    )
 
 cast-result : tie.Need-cast-result Inv-loop μ-loop
 cast-result c = search needs
 
 same-length : tie.Need-same-length Inv-loop μ-loop
-same-length c = c .before .loop .inv .1 .within .size
+same-length c = search needs
 
 returns : tie.Need-returns Inv-loop μ-loop
 returns c =
-    let k = c .before in
-    let c0 = k .before .before .before in
-    let a = c0 .args in
-    let i = k .loop .inv in
-    subst (λ (u : ℕ). Copied u (view (a .s) (a .t .now) .cells) (a .w .now) (k .loop .w) (k .loop .free)) (i .0)
-    (copy-end _ (view (a .s) (a .t .now) .cells) (a .w .now) (k .loop .w) (k .loop .i) (k .loop .free) (c0 .pre .0 .measured ∙ sym (i .0)) (omega arith) (i .1))
+    let turn = c .before in
+    let start = turn .before .before .before in
+    let a = start .args in
+    let i = turn .loop .inv in
+    subst (λ (u : ℕ). Copied u (view (a .s) (a .t .now) .cells) (a .w .now) (turn .loop .w) (turn .loop .free)) (i .0)
+    (copy-end _ _ _ _ _ _ (start .pre .0 .measured ∙ sym (i .0)) (omega arith) (i .1))
 
 pub copy-counts-spec : {M : Type 1} → statement M
 copy-counts-spec =

@@ -24,12 +24,15 @@ clear-requires c κs = search needs
 
 add-both : tie.Need-add-both
 add-both c =
-    let p = c .before .before .before .before .before .before .before .before in
-    let k = p .before .before .before .before .before in
-    let c0 = k .before .before .before .before in
-    let a = c0 .args in
-    let t = c0 .pre .0 in
-    omega (arith, gone-fits (view (a .s) (a .t .now)) _ _ _ (p .peel-all .result) (t .measured) (p .peel-all .ensures), k .copy-counts .ensures .number, frees-few (view (a .s) (a .t .now) .cells), t .measured, t .few)
+    let after-peel-all = c .before .before .before .before .before .before .before .before in
+    let start = after-peel-all .before .before .before .before .before .before .before .before .before in
+    let a = start .args in
+    let t = start .pre .0 in
+    omega (
+      arith,
+      gone-fits _ _ _ _ (after-peel-all .peel-all .result) (t .measured) (after-peel-all .peel-all .ensures),
+      frees-few (view (a .s) (a .t .now) .cells),
+    )
 
 both-requires : tie.Need-both-requires
 both-requires c κs = search needs
@@ -42,17 +45,14 @@ same-length c = search needs
 
 returns : tie.Need-returns
 returns c =
-    let d = c .before in
-    let z = d .before .before .before .before .before in
-    let p = z .before .before .before .before in
-    let h = p .before .before in
-    let k = h .before .before .before in
-    let c0 = k .before .before .before .before in
-    let a = c0 .args in
+    let after-clear = c .before .before .before .before .before .before in
+    let after-peel-all = after-clear .before .before .before .before in
+    let after-copy-counts = after-peel-all .before .before .before .before .before in
+    let start = after-copy-counts .before .before .before .before in
     record {
-      decided = decided (a .s) (a .t .now) (a .w .now) _ _ _ (k .copy-counts .result) (p .peel-all .result) (h .chain-holds .result) (d .both .result) (c .both2 .result) (c0 .pre .0 .measured)
-          (k .copy-counts .ensures) (p .peel-all .ensures) (h .chain-holds .ensures) (d .both .ensures) (c .both2 .ensures) (z .clear .ensures);
-      free = k .copy-counts .ensures .number;
+      decided = decided _ _ _ _ _ _ _ _ _ _ _ (start .pre .0 .measured) (after-copy-counts .copy-counts .ensures) (after-peel-all .peel-all .ensures)
+          (after-peel-all .before .before .chain-holds .ensures) (c .before .both .ensures) (c .both2 .ensures) (after-clear .clear .ensures);
+      free = after-copy-counts .copy-counts .ensures .number;
     }
 
 pub examine-spec : {M : Type 1} → statement M

@@ -6,16 +6,10 @@ use Rattle.sound.proofs.follow.Statement.{statement}
 use Rattle.sound.proofs.follow.Tie as tie
 
 returns : tie.Need-returns
-returns c =
-    let c0 = c .before in
-    let a = c0 .args in
-    follow-null (a .n) (a .x) (a .w .now) (a .e) (c .if1 .taken)
+returns c = follow-null _ _ _ _ (c .if1 .taken)
 
 returns-2 : tie.Need-returns-2
-returns-2 c =
-    let c0 = c .before .before in
-    let a = c0 .args in
-    follow-far (a .n) (a .x) (a .w .now) (a .e) (c0 .pre .1) (omega arith)
+returns-2 c = follow-far _ _ _ _ (c .before .before .pre .1) (omega arith)
 
 sub-r : tie.Need-sub-r
 sub-r c = search needs
@@ -28,9 +22,8 @@ slice-read-r c = search needs
 
 returns-3 : tie.Need-returns-3
 returns-3 c =
-    let c0 = c .before .before .before .before in
-    let a = c0 .args in
-    follow-free (a .n) (a .x) (a .w .now) (a .e) (c0 .pre .1) (omega arith) (omega arith) (c .if3 .taken)
+    let start = c .before .before .before .before in
+    follow-free _ _ _ _ (start .pre .1) (omega arith) (omega arith) (c .if3 .taken)
 
 sub-w : tie.Need-sub-w
 sub-w c = search needs
@@ -49,18 +42,16 @@ same-length c = search needs
 
 returns-4 : tie.Need-returns-4
 returns-4 c =
-    let c0 = c .before .before .before .before .before in
-    let a = c0 .args in
-    follow-one (a .n) (a .x) (a .w .now) (a .e) (omega arith) (omega arith) (c0 .pre .0) (omega arith)
+    let start = c .before .before .before .before .before in
+    follow-one _ _ _ _ (omega arith) (omega arith) (start .pre .0) (omega arith)
 
 same-length-2 : tie.Need-same-length-2
 same-length-2 c = search needs
 
 returns-5 : tie.Need-returns-5
 returns-5 c =
-    let c0 = c .before .before .before .before .before in
-    let a = c0 .args in
-    follow-last (a .n) (a .x) (a .w .now) (a .e) (c0 .pre .1) (omega arith) (omega arith) (c0 .pre .0) (omega arith)
+    let start = c .before .before .before .before .before in
+    follow-last _ _ _ _ (start .pre .1) (omega arith) (omega arith) (start .pre .0) (omega arith)
 
 pub follow-spec : {M : Type 1} → statement M
 follow-spec =

@@ -1,42 +1,36 @@
 -- `sound::meet_element` meets its contract.
 use native.Mathlib.Omega.{arith}
-use Rattle.table.specs.View.{view}
 use Rattle.sound.specs.TakeLaws.{typed-yes, typed-no, hand-few, no-element, element-room, some-element, hand-cell}
 use borrow.Author.Needs.{needs}
 use Rattle.sound.proofs.meet_element.Statement.{statement}
 use Rattle.sound.proofs.meet_element.Tie as tie
 
 add-gone : tie.Need-add-gone
-add-gone c =
-    let c0 = c .before .before .before in
-    let a = c0 .args in
-    omega (arith, hand-few (view (a .s) (a .t .now)) _ (a .w .now) (a .e) (c0 .pre .1), c0 .pre .1 .few)
+add-gone c = omega (arith, hand-few _ _ _ _ (c .before .before .before .pre .1))
 
 kind-of-requires : tie.Need-kind-of-requires
 kind-of-requires c κs =
-    let c0 = c .before .before .before in
-    let a = c0 .args in
-    (c0 .pre .0, hand-cell (a .s) (a .t .now) (a .w .now) (a .e) (c0 .pre .1))
+    let start = c .before .before .before in
+    (start .pre .0, hand-cell _ _ _ _ (start .pre .1))
 
 returns : tie.Need-returns
 returns c =
-    let k = c .before in
-    let c0 = k .before .before .before .before in
-    let a = c0 .args in
-    no-element (view (a .s) (a .t .now)) _ (a .w .now) (a .e) (c0 .pre .1) (k .kind-of .result) (a .e .ok) (k .kind-of .ensures) (typed-yes (k .kind-of .result) (a .e .ok) (omega arith)) (omega arith)
+    let start = c .before .before .before .before .before in
+    let a = start .args in
+    no-element _ _ _ _ (start .pre .1) (c .before .kind-of .result) (a .e .ok) (c .before .kind-of .ensures)
+    (typed-yes (c .before .kind-of .result) (a .e .ok) (omega arith)) (omega arith)
 
 returns-2 : tie.Need-returns-2
 returns-2 c =
-    let k = c .before .before in
-    let c0 = k .before .before .before .before in
-    let a = c0 .args in
-    no-element (view (a .s) (a .t .now)) _ (a .w .now) (a .e) (c0 .pre .1) (k .kind-of .result) 0 (k .kind-of .ensures) (typed-no (k .kind-of .result) (a .e .ok) (omega arith)) (omega arith)
+    let start = c .before .before .before .before .before .before in
+    let a = start .args in
+    no-element _ _ _ _ (start .pre .1) (c .before .before .kind-of .result) 0 (c .before .before .kind-of .ensures)
+    (typed-no (c .before .before .kind-of .result) (a .e .ok) (omega arith)) (omega arith)
 
 elem-of-requires : tie.Need-elem-of-requires
 elem-of-requires c κs =
-    let c0 = c .before .before .before .before .before .before in
-    let a = c0 .args in
-    (c0 .pre .0, hand-cell (a .s) (a .t .now) (a .w .now) (a .e) (c0 .pre .1))
+    let start = c .before .before .before .before .before .before in
+    (start .pre .0, hand-cell _ _ _ _ (start .pre .1))
 
 cast-y : tie.Need-cast-y
 cast-y c = search needs
@@ -46,25 +40,26 @@ follow-requires c κs = search needs
 
 stow-requires : tie.Need-stow-requires
 stow-requires c κs =
-    let f = c .before .before .before in
-    let y = f .before .before in
-    let k = y .before .before .before in
-    let c0 = k .before .before .before .before in
-    let a = c0 .args in
-    element-room (view (a .s) (a .t .now)) _ (a .w .now) (a .e) (c0 .pre .1) (k .kind-of .result) (a .e .ok) (k .kind-of .ensures) (typed-yes (k .kind-of .result) (a .e .ok) (omega arith)) (y .elem-of .result) _ (f .follow .result) (omega arith) (y .elem-of .ensures) (f .follow .ensures)
+    let after-elem-of = c .before .before .before .before .before in
+    let after-kind-of = after-elem-of .before .before .before in
+    let start = after-kind-of .before .before .before .before in
+    let a = start .args in
+    element-room _ _ _ _ (start .pre .1) _ (a .e .ok) (after-kind-of .kind-of .ensures) (typed-yes (after-kind-of .kind-of .result) (a .e .ok) (omega arith))
+    (after-elem-of .elem-of .result) _ (c .before .before .before .follow .result) (omega arith) (after-elem-of .elem-of .ensures)
+    (c .before .before .before .follow .ensures)
 
 same-length : tie.Need-same-length
 same-length c = search needs
 
 returns-3 : tie.Need-returns-3
 returns-3 c =
-    let g = c .before .before in
-    let f = g .before .before .before .before in
-    let y = f .before .before in
-    let k = y .before .before .before in
-    let c0 = k .before .before .before .before in
-    let a = c0 .args in
-    some-element (view (a .s) (a .t .now)) _ (a .w .now) (a .e) (c0 .pre .1) (k .kind-of .result) (a .e .ok) (k .kind-of .ensures) (typed-yes (k .kind-of .result) (a .e .ok) (omega arith)) (y .elem-of .result) _ (f .follow .result) (omega arith) (y .elem-of .ensures) (f .follow .ensures) _ (g .stow .result) (g .stow .ensures)
+    let after-follow = c .before .before .before .before .before .before in
+    let after-kind-of = after-follow .before .before .before .before .before in
+    let start = after-kind-of .before .before .before .before in
+    let a = start .args in
+    some-element _ _ _ _ (start .pre .1) _ _ (after-kind-of .kind-of .ensures) (typed-yes (after-kind-of .kind-of .result) (a .e .ok) (omega arith))
+    (after-follow .before .before .elem-of .result) _ (after-follow .follow .result) (omega arith) (after-follow .before .before .elem-of .ensures)
+    (after-follow .follow .ensures) _ (c .before .before .stow .result) (c .before .before .stow .ensures)
 
 pub meet-element-spec : {M : Type 1} → statement M
 meet-element-spec =

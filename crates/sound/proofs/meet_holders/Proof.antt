@@ -23,33 +23,24 @@ holders-requires c κs = search needs
 
 loop-holds : tie.Need-loop-holds Inv-loop μ-loop
 loop-holds c =
-    let c0 = c .before .before .before in
-    let a = c0 .args in
-    (refl, c .holders .ensures, holders-start (view (a .s) (a .t .now)) _ (a .w .now) _ refl (c0 .pre .0 .measured) (c0 .pre .1 .1))
+    let start = c .before .before .before in
+    (refl, c .holders .ensures, holders-start _ _ _ _ refl (start .pre .0 .measured) (start .pre .1 .1))
 
 holder-of-requires : tie.Need-holder-of-requires Inv-loop μ-loop
-holder-of-requires c κs =
-    let k = c .before in
-    let c0 = k .before .before .before .before in
-    (c0 .pre .0, omega (arith, k .loop .inv .1))
+holder-of-requires c κs = search needs
 
 follow-requires : tie.Need-follow-requires Inv-loop μ-loop
-follow-requires c κs =
-    let k = c .before .before .before in
-    let c0 = k .before .before .before .before in
-    let i = k .loop .inv in
-    (omega (arith, i .0, i .2 .shown .within .size, c0 .pre .1 .0), i .2 .none)
+follow-requires c κs = search needs
 
 stow-requires : tie.Need-stow-requires Inv-loop μ-loop
 stow-requires c κs =
-    let f = c .before .before .before in
-    let x = f .before .before in
-    let k = x .before .before in
-    let c0 = k .before .before .before .before in
-    let a = c0 .args in
-    let i = k .loop .inv in
-    let t = c0 .pre .0 in
-    holders-room (view (a .s) (a .t .now)) _ (a .w .now) (k .loop .w) (k .loop .e) (k .loop .h) (t .measured ∙ sym (i .0)) (omega (arith, i .0, t .few)) (omega (arith, i .0, c0 .pre .1 .0)) (i .2) (omega (arith, i .1, t .held)) (x .holder-of .result) _ (f .follow .result) (x .holder-of .ensures .0) (f .follow .ensures)
+    let after-follow = c .before .before .before in
+    let turn = after-follow .before .before .before .before in
+    let start = turn .before .before .before .before in
+    let i = turn .loop .inv in
+    let t = start .pre .0 in
+    holders-room _ _ _ _ _ _ (t .measured ∙ sym (i .0)) (omega arith) (omega arith) (i .2) (omega arith) _ _ _
+    (after-follow .before .before .holder-of .ensures .0) (after-follow .follow .ensures)
 
 add-h : tie.Need-add-h Inv-loop μ-loop
 add-h c = search needs
@@ -59,27 +50,29 @@ loop-less c = search needs
 
 loop-again : tie.Need-loop-again Inv-loop μ-loop
 loop-again c =
-    let g = c .before .before in
-    let f = g .before .before .before .before in
-    let x = f .before .before in
-    let k = x .before .before in
-    let c0 = k .before .before .before .before in
-    let a = c0 .args in
-    let i = k .loop .inv in
-    let t = c0 .pre .0 in
-    (i .0, i .1, holders-step (view (a .s) (a .t .now)) _ (a .w .now) (k .loop .w) (k .loop .e) (k .loop .h) (t .measured ∙ sym (i .0)) (omega (arith, i .0, t .few)) (omega (arith, i .0, c0 .pre .1 .0)) (i .2) (omega (arith, i .1, t .held)) (x .holder-of .result) _ (f .follow .result) (x .holder-of .ensures .0) (f .follow .ensures) _ (g .stow .result) (g .stow .ensures))
+    let after-follow = c .before .before .before .before .before .before in
+    let turn = after-follow .before .before .before .before in
+    let start = turn .before .before .before .before in
+    let i = turn .loop .inv in
+    let t = start .pre .0 in (
+      i .0,
+      i .1,
+      holders-step _ _ _ _ _ _ (t .measured ∙ sym (i .0))
+          (omega arith) (omega arith) (i .2) (omega arith)
+          _ _ _ (after-follow .before .before .holder-of .ensures .0)
+          (after-follow .follow .ensures) _ _ (c .before .before .stow .ensures),
+    )
 
 same-length : tie.Need-same-length Inv-loop μ-loop
-same-length c = c .before .loop .inv .2 .shown .within .size
+same-length c = search needs
 
 returns : tie.Need-returns Inv-loop μ-loop
 returns c =
-    let k = c .before in
-    let c0 = k .before .before .before .before in
-    let a = c0 .args in
-    let i = k .loop .inv in
-    subst (λ (u : ℕ). Shown u (a .w .now) (k .loop .w) (k .loop .e) (afterHolders (view (a .s) (a .t .now)))) (i .0)
-    (holders-end (view (a .s) (a .t .now)) _ (a .w .now) (k .loop .w) (k .loop .e) (k .loop .h) (i .2) (omega (arith, i .1, c0 .pre .0 .held)))
+    let turn = c .before in
+    let a = turn .before .before .before .before .args in
+    let i = turn .loop .inv in
+    subst (λ (u : ℕ). Shown u (a .w .now) (turn .loop .w) (turn .loop .e) (afterHolders (view (a .s) (a .t .now)))) (i .0)
+    (holders-end _ _ _ _ _ _ (i .2) (omega arith))
 
 pub meet-holders-spec : {M : Type 1} → statement M
 meet-holders-spec =

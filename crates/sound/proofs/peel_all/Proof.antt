@@ -19,66 +19,63 @@ meet-holders-requires c κs = c .before .before .before .pre
 
 refill-requires : tie.Need-refill-requires Inv-loop μ-loop
 refill-requires c κs =
-    let m = c .before .before .before in
-    let c0 = m .before .before .before .before in
-    let a = c0 .args in
-    let t = c0 .pre .0 in
-    start-room (view (a .s) (a .t .now)) _ (a .w .now) _ (m .meet-holders .result) (t .measured) (omega (arith, t .few)) (c0 .pre .1 .0) (m .meet-holders .ensures)
+    let start = c .before .before .before .before .before .before .before in
+    let a = start .args in
+    let t = start .pre .0 in
+    start-room (view (a .s) (a .t .now)) _ _ _ _ (t .measured) (omega arith) (start .pre .1 .0) (c .before .before .before .meet-holders .ensures)
 
 loop-holds : tie.Need-loop-holds Inv-loop μ-loop
 loop-holds c =
-    let m = c .before .before .before .before in
-    let c0 = m .before .before .before .before in
-    let a = c0 .args in
-    let t = c0 .pre .0 in
-    peel-start (view (a .s) (a .t .now)) _ (a .w .now) _ (m .meet-holders .result) (t .measured) (omega (arith, t .few)) (c0 .pre .1 .0) (m .meet-holders .ensures) (c .refill .result) (c .refill .ensures)
+    let start = c .before .before .before .before .before .before .before .before in
+    let a = start .args in
+    let t = start .pre .0 in
+    peel-start (view (a .s) (a .t .now)) _ _ _ _ (t .measured) (omega arith) (start .pre .1 .0) (c .before .before .before .before .meet-holders .ensures) _
+    (c .refill .ensures)
 
 take-cell-requires : tie.Need-take-cell-requires Inv-loop μ-loop
 take-cell-requires c κs =
-    let l = c .before in
-    let k = l .before .before in
-    let m = k .before .before .before .before .before in
-    let c0 = m .before .before .before .before in
-    let a = c0 .args in
-    let t = c0 .pre .0 in
-    (t, taking (view (a .s) (a .t .now)) _ _ (k .loop .w) (k .loop .e) (t .measured) (omega (arith, t .few)) (omega (arith, m .meet-holders .ensures .within .size, c0 .pre .1 .0)) (k .loop .inv) (l .if1 .taken))
+    let start = c .before .before .before .before .before .before .before .before .before .before .before .before in
+    let t = start .pre .0 in (
+      t,
+      taking _ _ _ _ _ (t .measured) (omega arith)
+          (omega arith) (c .before .before .before .loop .inv)
+          (c .before .if1 .taken),
+    )
 
 loop-less : tie.Need-loop-less Inv-loop μ-loop
 loop-less c =
-    let r = c .before .before in
-    let l = r .before .before in
-    let k = l .before .before in
-    let m = k .before .before .before .before .before in
-    let c0 = m .before .before .before .before in
-    let a = c0 .args in
-    let t = c0 .pre .0 in
-    omega (arith, less-left (view (a .s) (a .t .now)) _ _ (k .loop .w) (k .loop .e) (t .measured) (omega (arith, t .few)) (omega (arith, m .meet-holders .ensures .within .size, c0 .pre .1 .0)) (k .loop .inv) _ (r .take-cell .result) (l .if1 .taken) (r .take-cell .ensures))
+    let then1 = c .before .before .before .before in
+    let start = then1 .before .before .before .before .before .before .before .before .before .before .before in
+    let a = start .args in
+    let t = start .pre .0 in
+    omega (
+      arith,
+      less-left (view (a .s) (a .t .now)) _ _ _ _ (t .measured) (omega arith)
+          (omega arith) (then1 .before .before .loop .inv) _ _
+          (then1 .if1 .taken) (c .before .before .take-cell .ensures),
+    )
 
 loop-again : tie.Need-loop-again Inv-loop μ-loop
 loop-again c =
-    let r = c .before .before in
-    let l = r .before .before in
-    let k = l .before .before in
-    let m = k .before .before .before .before .before in
-    let c0 = m .before .before .before .before in
-    let a = c0 .args in
-    let t = c0 .pre .0 in
-    peel-step (view (a .s) (a .t .now)) _ _ (k .loop .w) (k .loop .e) (t .measured) (omega (arith, t .few)) (omega (arith, m .meet-holders .ensures .within .size, c0 .pre .1 .0)) (k .loop .inv) _ (r .take-cell .result) (l .if1 .taken) (r .take-cell .ensures)
+    let then1 = c .before .before .before .before in
+    let start = then1 .before .before .before .before .before .before .before .before .before .before .before in
+    let a = start .args in
+    let t = start .pre .0 in
+    peel-step (view (a .s) (a .t .now)) _ _ _ _ (t .measured) (omega arith) (omega arith) (then1 .before .before .loop .inv) _ _ (then1 .if1 .taken)
+    (c .before .before .take-cell .ensures)
 
 same-length : tie.Need-same-length Inv-loop μ-loop
 same-length c =
-    let k = c .before .before in
-    let m = k .before .before .before .before .before in
-    k .loop .inv .within .size ∙ m .meet-holders .ensures .within .size
+    let after-meet-holders = c .before .before .before .before .before .before .before in
+    c .before .before .loop .inv .within .size ∙ after-meet-holders .meet-holders .ensures .within .size
 
 returns : tie.Need-returns Inv-loop μ-loop
 returns c =
-    let k = c .before .before in
-    let m = k .before .before .before .before .before in
-    let c0 = m .before .before .before .before in
-    let a = c0 .args in
-    let t = c0 .pre .0 in
-    peel-end (view (a .s) (a .t .now)) _ _ (k .loop .w) (k .loop .e) (t .measured) (omega (arith, t .few)) (omega (arith, m .meet-holders .ensures .within .size, c0 .pre .1 .0)) (k .loop .inv) (a .w .now) (m .meet-holders .ensures .within) (omega arith)
+    let after-meet-holders = c .before .before .before .before .before .before .before in
+    let start = after-meet-holders .before .before .before .before in
+    let t = start .pre .0 in
+    peel-end _ _ _ _ _ (t .measured) (omega arith) (omega arith) (c .before .before .loop .inv) _ (after-meet-holders .meet-holders .ensures .within)
+    (omega arith)
 
 pub peel-all-spec : {M : Type 1} → statement M
 peel-all-spec =

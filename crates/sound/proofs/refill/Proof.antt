@@ -7,16 +7,10 @@ use Rattle.sound.proofs.refill.Statement.{statement}
 use Rattle.sound.proofs.refill.Tie as tie
 
 returns : tie.Need-returns
-returns c =
-    let c0 = c .before .before in
-    let a = c0 .args in
-    refill-held (a .n) (a .w .now) (a .e) (c .if1 .taken)
+returns c = refill-held _ _ _ (c .if1 .taken)
 
 returns-2 : tie.Need-returns-2
-returns-2 c =
-    let c0 = c .before .before .before .before in
-    let a = c0 .args in
-    refill-empty (a .n) (a .w .now) (a .e) (omega arith) (c .if2 .taken)
+returns-2 c = refill-empty _ _ _ (omega arith) (c .if2 .taken)
 
 sub-top : tie.Need-sub-top
 sub-top c = search needs
@@ -32,16 +26,11 @@ shared-slice-read-x c = search needs
 
 cast-x : tie.Need-cast-x
 cast-x c =
-    let c0 = c .before .before .before .before .before .before in
-    let a = c0 .args in
+    let a = c .before .before .before .before .before .before .args in
     omega (arith, c .shared-slice-known .given (a .n + (a .e .top - 1)))
 
 returns-3 : tie.Need-returns-3
-returns-3 c =
-    let k = c .before .before in
-    let c0 = k .before .before .before .before in
-    let a = c0 .args in
-    refill-top (a .n) (a .w .now) (a .e) (omega arith) (k .if2 .left)
+returns-3 c = refill-top _ _ _ (omega arith) (c .before .before .if2 .left)
 
 pub refill-spec : {M : Type 1} → statement M
 refill-spec =

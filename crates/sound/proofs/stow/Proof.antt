@@ -18,7 +18,7 @@ mul-w : tie.Need-mul-w
 mul-w c = search needs
 
 slice-write-w : tie.Need-slice-write-w
-slice-write-w c = omega (arith, c .before .pre .more (c .if1 .left), c .before .pre .long)
+slice-write-w c = omega (arith, c .before .pre .more (c .if1 .left))
 
 add-t8 : tie.Need-add-t8
 add-t8 c = search needs
@@ -27,10 +27,7 @@ same-length : tie.Need-same-length
 same-length c = search needs
 
 returns-2 : tie.Need-returns-2
-returns-2 c =
-    let c0 = c .before in
-    let a = c0 .args in
-    stow-some (a .n) (a .w .now) (a .e) (c0 .pre) (c .if1 .left)
+returns-2 c = stow-some _ _ _ (c .before .pre) (c .if1 .left)
 
 pub stow-spec : {M : Type 1} → statement M
 stow-spec =

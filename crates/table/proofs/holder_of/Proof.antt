@@ -19,7 +19,10 @@ cast-result : tie.Need-cast-result
 cast-result c = omega (arith, c .shared-slice-known .given (2 + c .before .args .h))
 
 returns : tie.Need-returns
-returns c = (read-holder (c .before .args .s) (c .before .args .t .now) (c .before .pre .0) (c .before .args .h) (c .before .pre .1), omega (arith, c .shared-slice-known .given (2 + c .before .args .h)))
+returns c =
+    let start = c .before in
+    let a = start .args in
+    (read-holder _ _ (start .pre .0) _ (start .pre .1), omega (arith, c .shared-slice-known .given (2 + a .h)))
 
 pub holder-of-spec : {M : Type 1} → statement M
 holder-of-spec =

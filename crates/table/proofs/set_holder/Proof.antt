@@ -25,8 +25,8 @@ returns : tie.Need-returns
 returns c =
     let a = c .args in
     record {
-      table = keeps (a .s) (a .t .now) (c .pre .0) (2 + a .h) (a .v) (omega arith);
-      is = store-holder (a .s) (a .t .now) (c .pre .0) (a .h) (a .v) (c .pre .1 .0);
+      table = keeps _ _ (c .pre .0) (2 + a .h) _ (omega arith);
+      is = store-holder _ _ (c .pre .0) _ _ (c .pre .1 .0);
     }
 
 pub set-holder-spec : {M : Type 1} → statement M

@@ -16,10 +16,14 @@ abbrev μ-loop : tie.MeasureT-loop
 μ-loop out₀ from to i₀ out i = to - i
 
 loop-holds : tie.Need-loop-holds Inv-loop μ-loop
-loop-holds c = let a = c .args in let z : a .from - a .from ≡ 0 = omega arith in (omega arith, omega arith, paste-zero (a .out .now) (a .from) (replicate (a .to - a .from) 32) ∙ ap (paste (a .out .now) (a .from) (replicate (a .to - a .from) 32)) (sym z))
+loop-holds c =
+    let a = c .args in
+    let z : a .from - a .from ≡ 0 = omega arith in (omega arith, omega arith, paste-zero _ (a .from) (replicate (a .to - a .from) 32) ∙ ap (paste (a .out .now) (a .from) (replicate (a .to - a .from) 32)) (sym z))
 
 slice-write-out : tie.Need-slice-write-out Inv-loop μ-loop
-slice-write-out c = let p = c .before .loop in let a = c .before .before .args in omega (arith, fill-length (a .out .now) (p .out) (a .from) (a .to) (p .i) (omega arith) (omega arith) (omega arith) (p .inv .2))
+slice-write-out c =
+    let a = c .before .before .args in
+    omega (arith, fill-length _ _ (a .from) (a .to) (c .before .loop .i) (omega arith) (omega arith) (omega arith) (c .before .loop .inv .2))
 
 add-i : tie.Need-add-i Inv-loop μ-loop
 add-i c = search needs
@@ -28,13 +32,23 @@ loop-less : tie.Need-loop-less Inv-loop μ-loop
 loop-less c = search needs
 
 loop-again : tie.Need-loop-again Inv-loop μ-loop
-loop-again c = let p = c .before .loop in let a = c .before .before .args in (omega arith, omega arith, fill-step (a .out .now) (p .out) (a .from) (a .to) (p .i) (omega arith) (omega arith) (omega arith) (p .inv .2))
+loop-again c =
+    let a = c .before .before .args in (
+      omega arith,
+      omega arith,
+      fill-step _ _ (a .from) (a .to) (c .before .loop .i) (omega arith) (omega arith) (omega arith) (c .before .loop .inv .2),
+    )
 
 same-length : tie.Need-same-length Inv-loop μ-loop
-same-length c = let p = c .before .loop in let a = c .before .before .args in fill-length (a .out .now) (p .out) (a .from) (a .to) (p .i) (omega arith) (omega arith) (omega arith) (p .inv .2)
+same-length c =
+    let a = c .before .before .args in
+    fill-length _ _ (a .from) (a .to) (c .before .loop .i) (omega arith) (omega arith) (omega arith) (c .before .loop .inv .2)
 
 returns : tie.Need-returns Inv-loop μ-loop
-returns c = let p = c .before .loop in let a = c .before .before .args in let q : p .i ≡ a .to = omega arith in p .inv .2 ∙ ap (λ (k : ℕ). paste (a .out .now) (a .from) (replicate (a .to - a .from) 32) (k - a .from)) q
+returns c =
+    let a = c .before .before .args in
+    let q : c .before .loop .i ≡ a .to = omega arith in
+    c .before .loop .inv .2 ∙ ap (λ (k : ℕ). paste (a .out .now) (a .from) (replicate (a .to - a .from) 32) (k - a .from)) q
 
 pub fill-spec : {M : Type 1} → statement M
 fill-spec =

@@ -12,9 +12,12 @@ use Rattle.writing.specs.WroteLaws.{stands, no-table, no-space, no-holde
 use Rattle.writing.proofs.write.Statement.{statement}
 use Rattle.writing.proofs.write.Tie as tie
 
-tabled : (c : tie.Else1) → Table (shape (c .before .cells-of .result)) (c .before .before .before .before .before .args .table .now)
+tabled : (c : tie.Else1) →
+    let start = c .before .before .before .before .before in
+    Table (shape (c .before .cells-of .result)) (start .args .table .now)
 tabled c =
-    let ts = c .before .before .before .before .before .args .table .now in
+    let start = c .before .before .before .before .before in
+    let ts = start .args .table .now in
     let e = c .before .cells-of .ensures in
     subst (λ (n : ℕ). Table (shape n) ts) (sym e) (cells-table ts (λ z. c .if1 .left (e ∙ z)))
 
@@ -25,16 +28,24 @@ refused-requires : tie.Need-refused-requires
 refused-requires c κs = search needs
 
 returns : tie.Need-returns
-returns c = let a = c .before .before .before .before .before .before .args in no-table (a .table .now) (a .work .now) (a .out .now) (a .h) (c .before .before .cells-of .result) (c .before .before .cells-of .ensures) (c .refused .result) (c .before .if1 .taken) (c .refused .ensures)
+returns c =
+    let a = c .before .before .before .before .before .before .args in
+    no-table (a .table .now) _ _ _ _ (c .before .before .cells-of .ensures) _ (c .before .if1 .taken) (c .refused .ensures)
 
 mul-if2 : tie.Need-mul-if2
-mul-if2 c = let t = cells-table (c .before .before .before .before .before .args .table .now) (λ z. c .if1 .left (c .before .cells-of .ensures ∙ z)) in omega (arith, t .few, c .before .cells-of .ensures)
+mul-if2 c =
+    let start = c .before .before .before .before .before in
+    let t = cells-table (start .args .table .now) (λ z. c .if1 .left (c .before .cells-of .ensures ∙ z)) in
+    omega (arith, t .few, c .before .cells-of .ensures)
 
 refused-requires-2 : tie.Need-refused-requires-2
 refused-requires-2 c κs = search needs
 
 returns-2 : tie.Need-returns-2
-returns-2 c = let a = c .before .before .before .before .before .before .before .args in no-space (a .table .now) (a .work .now) (a .out .now) (a .h) (c .before .before .before .cells-of .result) (c .before .before .before .cells-of .ensures) (c .refused2 .result) (c .before .before .if1 .left) (c .before .if2 .taken) (c .refused2 .ensures)
+returns-2 c =
+    let a = c .before .before .before .before .before .before .before .args in
+    no-space (a .table .now) _ _ _ _ (c .before .before .before .cells-of .ensures) _ (c .before .before .if1 .left) (c .before .if2 .taken)
+    (c .refused2 .ensures)
 
 holders-requires : tie.Need-holders-requires
 holders-requires c κs = search needs
@@ -43,10 +54,16 @@ refused-requires-3 : tie.Need-refused-requires-3
 refused-requires-3 c κs = search needs
 
 returns-3 : tie.Need-returns-3
-returns-3 c = let a = c .before .before .before .before .before .before .before .before .before .args in no-holder (a .table .now) (a .work .now) (a .out .now) (a .h) (c .before .before .before .before .before .cells-of .result) (c .before .before .before .before .before .cells-of .ensures) (c .refused3 .result) (c .before .before .before .before .if1 .left) (c .before .before .before .if2 .left) (omega (arith, c .before .if3 .taken, c .before .before .holders .ensures)) (c .refused3 .ensures)
+returns-3 c =
+    let else2 = c .before .before .before in
+    let a = else2 .before .before .before .before .before .before .args in
+    no-holder (a .table .now) _ _ _ _ (else2 .before .before .cells-of .ensures) _ (else2 .before .if1 .left) (else2 .if2 .left) (omega arith)
+    (c .refused3 .ensures)
 
 is-sound-requires : tie.Need-is-sound-requires
-is-sound-requires c κs = (tabled (c .before .before .before .before), c .before .before .before .if2 .left)
+is-sound-requires c κs =
+    let else2 = c .before .before .before in
+    (tabled (else2 .before), else2 .if2 .left)
 
 refused-requires-4 : tie.Need-refused-requires-4
 refused-requires-4 c κs = search needs
@@ -55,13 +72,22 @@ same-length : tie.Need-same-length
 same-length c = search needs
 
 returns-4 : tie.Need-returns-4
-returns-4 c = let a = c .before .before .before .before .before .before .before .before .before .before .before .before .before .before .args in not-sound (a .table .now) (a .work .now) (a .out .now) (a .h) (c .before .before .before .before .before .before .before .before .before .before .cells-of .result) (c .before .before .before .before .before .before .before .before .before .before .cells-of .ensures) (c .refused4 .result) (c .before .before .before .before .before .before .before .before .before .if1 .left) (c .before .before .before .before .before .before .before .before .if2 .left) (omega (arith, c .before .before .before .before .before .before .if3 .left, c .before .before .before .before .before .before .before .holders .ensures)) _ (c .before .before .before .before .is-sound .ensures .work) (sym (c .before .before .before .before .is-sound .ensures .answer) ∙ not-true _ (c .before .if4 .taken)) (c .refused4 .ensures)
+returns-4 c =
+    let after-is-sound = c .before .before .before .before in
+    let else2 = after-is-sound .before .before .before .before in
+    let a = else2 .before .before .before .before .before .before .args in
+    not-sound (a .table .now) _ _ _ _ (else2 .before .before .cells-of .ensures) _ (else2 .before .if1 .left) (else2 .if2 .left) (omega arith) _
+    (after-is-sound .is-sound .ensures .work) (sym (after-is-sound .is-sound .ensures .answer) ∙ not-true _ (c .before .if4 .taken)) (c .refused4 .ensures)
 
 holder-of-requires : tie.Need-holder-of-requires
-holder-of-requires c κs = (tabled (c .before .before .before .before .before .before .before .before), omega (arith, c .before .before .before .before .before .if3 .left, c .before .before .before .before .before .before .holders .ensures))
+holder-of-requires c κs = (tabled (c .before .before .before .before .before .before .before .before), omega arith)
 
 write-list-requires : tie.Need-write-list-requires
-write-list-requires c κs = (tabled (c .before .before .before .before .before .before .before .before .before .before), stands _ (c .before .before .before .before .before .before .before .before .before .before .before .before .before .before .before .args .h) _ (c .before .before .before .before .before .is-sound .ensures .sound .0 (not-false _ (c .before .before .if4 .left))) (c .before .holder-of .ensures .0))
+write-list-requires c κs =
+    let after-is-sound = c .before .before .before .before .before in (
+      tabled (after-is-sound .before .before .before .before .before),
+      stands _ _ _ (after-is-sound .is-sound .ensures .sound .0 (not-false _ (c .before .before .if4 .left))) (c .before .holder-of .ensures .0),
+    )
 
 same-length-2 : tie.Need-same-length-2
 same-length-2 c = search needs
@@ -71,12 +97,17 @@ same-length-3 c = search needs
 
 returns-5 : tie.Need-returns-5
 returns-5 c =
-    let a = c .before .before .before .before .before .before .before .before .before .before .before .before .before .before .before .before .before .before .args in
-    let n = c .before .before .before .before .before .before .before .before .before .before .before .before .before .before .cells-of in
-    let d = c .before .before .before .before .before .before .before .before .is-sound in
+    let after-holder-of = c .before .before .before .before in
+    let else4 = after-holder-of .before in
+    let else2 = else4 .before .before .before .before .before .before .before in
+    let a = else2 .before .before .before .before .before .before .args in
+    let n = else2 .before .before .cells-of in
+    let d = else4 .before .before .before .is-sound in
     let us = d .last .1 .1 .0 in
     let cs = view (shape (n .result)) (a .table .now) .cells in
-    accepted (a .table .now) (a .work .now) (a .out .now) (a .h) (n .result) (n .ensures) (c .before .before .write-list .result) (c .before .before .before .before .before .before .before .before .before .before .before .before .before .if1 .left) (c .before .before .before .before .before .before .before .before .before .before .before .before .if2 .left) (omega (arith, c .before .before .before .before .before .before .before .before .before .before .if3 .left, c .before .before .before .before .before .before .before .before .before .before .before .holders .ensures)) us (d .ensures .work) _ (sym (d .ensures .answer) ∙ not-false _ (c .before .before .before .before .before .if4 .left)) (c .before .before .write-list .ensures us ∙ ap (λ (x : ℕ). writeList (listAt cs x) us (a .out .now)) (c .before .before .before .before .holder-of .ensures .0))
+    accepted (a .table .now) _ _ _ _ (n .ensures) _ (else2 .before .if1 .left) (else2 .if2 .left) (omega arith) us (d .ensures .work) _
+    (sym (d .ensures .answer) ∙ not-false _ (else4 .if4 .left))
+    (c .before .before .write-list .ensures us ∙ ap (λ (x : ℕ). writeList (listAt cs x) us (a .out .now)) (after-holder-of .holder-of .ensures .0))
 
 pub write-spec : {M : Type 1} → statement M
 write-spec =

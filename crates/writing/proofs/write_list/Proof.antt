@@ -14,12 +14,13 @@ use Rattle.writing.proofs.write_list.Statement.{statement}
 use Rattle.writing.proofs.write_list.Tie as tie
 
 -- what was measured has room
-fits : (c : tie.Else1) → let a = c .before .before .before .before .before .before .args in let n = c .before .before .measure .result .size in
+fits : (c : tie.Else1) →
+    let a = c .before .before .before .before .before .before .args in
+    let n = c .before .before .measure .result .size in
     Fitting (view (a .s) (a .t .now) .cells) (a .x) n × (recordEnd n ≤ length (a .out .now)) × (recordEnd n ≤ textMost)
 fits c =
-    let a = c .before .before .before .before .before .before .args in
     let m = c .before .before .measure in
-    fitting (view (a .s) (a .t .now) .cells) (a .x) (c .before .before .before .usable .result) (length (a .out .now)) (m .result) (m .ensures) (c .before .before .before .usable .ensures) (c .if1 .left)
+    fitting _ _ _ _ _ (m .ensures) (c .before .before .before .usable .ensures) (c .if1 .left)
 
 usable-requires : tie.Need-usable-requires
 usable-requires c κs = search needs
@@ -35,23 +36,30 @@ returns c =
     let a = c .before .before .before .before .before .before .before .args in
     let cs = view (a .s) (a .t .now) .cells in
     let m = c .before .before .before .measure in
-    λ ws. list-refused (listAt cs (a .x)) ws (a .out .now) (c .refused .result) (m .result .answer) (m .ensures .answer ∙ ap (λ (u : ℕ). judged u 0 (textAt cs (a .x))) (c .before .before .before .before .usable .ensures)) (c .before .if1 .taken) (c .refused .ensures)
+    λ ws. list-refused (listAt cs _) ws _ _ _
+    (m .ensures .answer ∙ ap (λ (u : ℕ). judged u 0 (textAt cs (a .x))) (c .before .before .before .before .usable .ensures)) (c .before .if1 .taken)
+    (c .refused .ensures)
 
 put-requires : tie.Need-put-requires
-put-requires c κs = let f = fits (c .before) in let p = c .before .before .before .before .before .before .before .pre in (p .0, (p .1, (f .0, omega (arith, f .1))))
+put-requires c κs =
+    let start = c .before .before .before .before .before .before .before in
+    let f = fits (c .before) in
+    let p = start .pre in
+    (p .0, (p .1, (f .0, omega arith)))
 
 record-end-requires : tie.Need-record-end-requires
 record-end-requires c κs = fits (c .before .before .before .before) .0 .short
 
 fill-requires : tie.Need-fill-requires
 fill-requires c κs =
-    let f = fits (c .before .before .before .before .before .before) in
+    let after-put = c .before .before .before .before in
+    let f = fits (after-put .before .before) in
     let e = c .before .record-end .ensures in
-    let n = c .before .before .before .before .put .kept in
+    let n = after-put .put .kept in
     (omega (arith, e), omega (arith, e, f .1, n))
 
 cast-done : tie.Need-cast-done
-cast-done c = omega (arith, fits (c .before .before .before .before .before .before .before .before .before) .2, c .before .before .before .before .record-end .ensures)
+cast-done c = omega (arith, fits (c .before .before .before .before .before .before .before .before .before) .2)
 
 done-requires : tie.Need-done-requires
 done-requires c κs = search needs
@@ -61,13 +69,17 @@ same-length c = search needs
 
 returns-2 : tie.Need-returns-2
 returns-2 c =
-    let a = c .before .before .before .before .before .before .before .before .before .before .before .before .before .before .before .before .args in
+    let after-fill = c .before .before .before in
+    let after-put = after-fill .before .before .before .before .before in
+    let else1 = after-put .before .before in
+    let a = else1 .before .before .before .before .before .before .args in
     let cs = view (a .s) (a .t .now) .cells in
-    let m = c .before .before .before .before .before .before .before .before .before .before .before .before .measure in
-    let u = c .before .before .before .before .before .before .before .before .before .before .before .before .before .usable in
-    let f = fits (c .before .before .before .before .before .before .before .before .before .before) in
-    let z = sym (ap (λ (k : ℕ). judged k 0 (textAt cs (a .x))) (u .ensures)) ∙ sym (m .ensures .answer) ∙ c .before .before .before .before .before .before .before .before .before .before .if1 .left in
-    λ ws. list-done (listAt cs (a .x)) ws (a .out .now) (c .done .result) _ _ (m .result .size) (c .before .before .before .before .before .record-end .result) z (f .0 .size) (c .before .before .before .before .before .record-end .ensures) (c .before .before .before .before .before .before .before .before .put .ensures) (c .before .before .before .fill .ensures) (c .done .ensures)
+    let m = else1 .before .before .measure in
+    let u = else1 .before .before .before .usable in
+    let f = fits else1 in
+    let z = sym (ap (λ (k : ℕ). judged k 0 (textAt cs (a .x))) (u .ensures)) ∙ sym (m .ensures .answer) ∙ else1 .if1 .left in
+    λ ws. list-done (listAt cs _) ws _ _ _ _ _ _ z (f .0 .size)
+    (after-fill .before .before .record-end .ensures) (after-put .put .ensures) (after-fill .fill .ensures) (c .done .ensures)
 
 pub write-list-spec : {M : Type 1} → statement M
 write-list-spec =

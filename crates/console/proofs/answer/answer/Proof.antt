@@ -21,7 +21,10 @@ same-length-2 : tie.Need-same-length-2
 same-length-2 c = search needs
 
 returns : tie.Need-returns
-returns c = speaks-long (take (c .before .before .before .before .before .before .before .before .before .before .before .args .used) (c .before .before .before .before .before .before .before .before .before .before .before .args .table .now)) (take (c .before .before .before .before .before .before .before .before .before .before .before .args .n) (c .before .before .before .before .before .before .before .before .before .before .before .args .line .now)) (c .before .before .before .before .before .before .before .before .before .before .before .args .table .now) (c .before .before .do-nothing .last .1 .1 .0) (c .before .before .before .before .before .before .before .before .before .before .before .args .texts .now) (c .before .before .do-nothing .result) (c .before .before .before .before .before .if1 .taken) (c .before .before .do-nothing .ensures)
+returns c =
+    let then1 = c .before .before .before .before .before in
+    let a = then1 .before .before .before .before .before .before .args in
+    speaks-long (take (a .used) (a .table .now)) _ (a .table .now) _ _ _ (then1 .if1 .taken) (c .before .before .do-nothing .ensures)
 
 sub-parse : tie.Need-sub-parse
 sub-parse c = search needs
@@ -83,9 +86,13 @@ same-length-4 c = search needs
 returns-2 : tie.Need-returns-2
 unfolding does
 returns-2 c =
-    let a = c .before .before .before .before .before .before .before .before .before .before .before .before .before .before .before .args in
+    let after-enum-told = c .before .before .before .before .before in
+    let after-parse = after-enum-told .before .before in
+    let a = after-parse .before .before .before .before .before .before .before .before .args in
     let k = a .n - 0 in
-    speaks-command (take (a .used) (a .table .now)) (a .line .now) (a .table .now) (c .before .before .do-nothing2 .last .1 .1 .0) (a .texts .now) (a .n) k (malformed) (c .before .before .do-nothing2 .result) (omega arith) (c .before .before .before .before .before .before .before .before .before .if1 .left) (sym (ap (meant (take k (a .line .now))) (c .before .before .before .before .before .enum-told .given .1)) ∙ c .before .before .before .before .before .before .before .parse .ensures)
+    speaks-command (take (a .used) (a .table .now)) _ (a .table .now) _ (a .texts .now) (a .n) k (malformed) (c .before .before .do-nothing2 .result)
+    (omega arith) (after-parse .before .before .if1 .left)
+    (sym (ap (meant (take k (a .line .now))) (after-enum-told .enum-told .given .1)) ∙ after-parse .parse .ensures)
     (speaks _ _ _ _ _ (c .before .before .do-nothing2 .ensures))
 
 same-length-5 : tie.Need-same-length-5
@@ -96,10 +103,14 @@ same-length-6 c = search needs
 
 returns-3 : tie.Need-returns-3
 returns-3 c =
-    let a = c .before .before .before .before .before .before .before .before .before .before .before .before .before .before .before .before .before .before .args in
+    let after-do-new = c .before .before .before .before in
+    let after-order = after-do-new .before .before .before .before in
+    let after-parse = after-order .before .before in
+    let a = after-parse .before .before .before .before .before .before .before .before .args in
     let k = a .n - 0 in
-    speaks-command (take (a .used) (a .table .now)) (a .line .now) (c .before .before .before .before .do-new .last .0) (c .before .before .before .before .do-new .last .1 .1 .0) (a .texts .now) (a .n) k (new (c .before .before .before .before .before .before .before .before .order .given .0 .0)) (c .before .before .before .before .do-new .result) (omega arith) (c .before .before .before .before .before .before .before .before .before .before .before .before .if1 .left) (sym (ap (meant (take k (a .line .now))) (c .before .before .before .before .before .before .before .before .order .given .1)) ∙ c .before .before .before .before .before .before .before .before .before .before .parse .ensures)
-    (speaks _ _ _ _ _ (c .before .before .before .before .do-new .ensures))
+    speaks-command (take (a .used) (a .table .now)) _ _ _ (a .texts .now) (a .n) k (new (after-order .order .given .0 .0)) (after-do-new .do-new .result)
+    (omega arith) (after-parse .before .before .if1 .left)
+    (sym (ap (meant (take k (a .line .now))) (after-order .order .given .1)) ∙ after-parse .parse .ensures) (speaks _ _ _ _ _ (after-do-new .do-new .ensures))
 
 same-length-7 : tie.Need-same-length-7
 same-length-7 c = search needs
@@ -112,10 +123,16 @@ same-length-9 c = search needs
 
 returns-4 : tie.Need-returns-4
 returns-4 c =
-    let a = c .before .before .before .before .before .before .before .before .before .before .before .before .before .before .before .before .before .before .before .before .before .args in
+    let after-do-operation = c .before .before .before .before .before .before in
+    let after-order2 = after-do-operation .before .before .before .before .before in
+    let after-parse = after-order2 .before .before in
+    let a = after-parse .before .before .before .before .before .before .before .before .args in
     let k = a .n - 0 in
-    speaks-command (take (a .used) (a .table .now)) (a .line .now) (c .before .before .before .before .before .before .do-operation .last .0) (c .before .before .before .before .before .before .do-operation .last .1 .1 .1 .0) (a .texts .now) (a .n) k (operation (c .before .before .before .before .before .before .before .before .before .before .before .order2 .given .0 .0) (c .before .before .before .before .before .before .before .before .before .before .before .order2 .given .0 .1 .0) (c .before .before .before .before .before .before .before .before .before .before .before .order2 .given .0 .1 .1 .0) (c .before .before .before .before .before .before .before .before .before .before .before .order2 .given .0 .1 .1 .1 .0)) (c .before .before .before .before .before .before .do-operation .result) (omega arith) (c .before .before .before .before .before .before .before .before .before .before .before .before .before .before .before .if1 .left) (sym (ap (meant (take k (a .line .now))) (c .before .before .before .before .before .before .before .before .before .before .before .order2 .given .1)) ∙ c .before .before .before .before .before .before .before .before .before .before .before .before .before .parse .ensures)
-    (speaks _ _ _ _ _ (c .before .before .before .before .before .before .do-operation .ensures))
+    speaks-command (take (a .used) (a .table .now)) _ _ _ (a .texts .now) (a .n) k
+    (operation (after-order2 .order2 .given .0 .0) (after-order2 .order2 .given .0 .1 .0) (after-order2 .order2 .given .0 .1 .1 .0)
+    (after-order2 .order2 .given .0 .1 .1 .1 .0)) (after-do-operation .do-operation .result) (omega arith) (after-parse .before .before .if1 .left)
+    (sym (ap (meant (take k (a .line .now))) (after-order2 .order2 .given .1)) ∙ after-parse .parse .ensures)
+    (speaks _ _ _ _ _ (after-do-operation .do-operation .ensures))
 
 same-length-10 : tie.Need-same-length-10
 same-length-10 c = search needs
@@ -131,10 +148,16 @@ same-length-13 c = search needs
 
 returns-5 : tie.Need-returns-5
 returns-5 c =
-    let a = c .before .before .before .before .before .before .before .before .before .before .before .before .before .before .before .before .before .before .before .before .before .before .before .before .before .args in
+    let after-do-reading = c .before .before .before .before .before .before .before .before in
+    let after-order3 = after-do-reading .before .before .before .before .before .before .before in
+    let after-parse = after-order3 .before .before in
+    let a = after-parse .before .before .before .before .before .before .before .before .args in
     let k = a .n - 0 in
-    speaks-command (take (a .used) (a .table .now)) (a .line .now) (c .before .before .before .before .before .before .before .before .do-reading .last .1 .1 .0) (c .before .before .before .before .before .before .before .before .do-reading .last .1 .1 .1 .1 .1 .0) (c .before .before .before .before .before .before .before .before .do-reading .last .1 .1 .1 .1 .1 .1 .0) (a .n) k (reading (c .before .before .before .before .before .before .before .before .before .before .before .before .before .before .before .order3 .given .0 .0) (drop (c .before .before .before .before .before .before .before .before .before .before .before .before .before .before .before .order3 .given .0 .1 .0) (take k (a .line .now)))) (c .before .before .before .before .before .before .before .before .do-reading .result) (omega arith) (c .before .before .before .before .before .before .before .before .before .before .before .before .before .before .before .before .before .before .before .if1 .left) (sym (ap (meant (take k (a .line .now))) (c .before .before .before .before .before .before .before .before .before .before .before .before .before .before .before .order3 .given .1)) ∙ c .before .before .before .before .before .before .before .before .before .before .before .before .before .before .before .before .before .parse .ensures)
-    (speaks _ _ _ _ _ (c .before .before .before .before .before .before .before .before .do-reading .ensures))
+    speaks-command (take (a .used) (a .table .now)) _ _ _ (after-do-reading .do-reading .last .1 .1 .1 .1 .1 .1 .0) (a .n) k
+    (reading (after-order3 .order3 .given .0 .0) (drop (after-order3 .order3 .given .0 .1 .0) (take k (a .line .now)))) (after-do-reading .do-reading .result)
+    (omega arith) (after-parse .before .before .if1 .left)
+    (sym (ap (meant (take k (a .line .now))) (after-order3 .order3 .given .1)) ∙ after-parse .parse .ensures)
+    (speaks _ _ _ _ _ (after-do-reading .do-reading .ensures))
 
 same-length-14 : tie.Need-same-length-14
 same-length-14 c = search needs
@@ -150,10 +173,14 @@ same-length-17 c = search needs
 
 returns-6 : tie.Need-returns-6
 returns-6 c =
-    let a = c .before .before .before .before .before .before .before .before .before .before .before .before .before .before .before .before .before .before .before .before .before .before .args in
+    let after-do-writing = c .before .before .before .before .before .before in
+    let after-order4 = after-do-writing .before .before .before .before .before .before in
+    let after-parse = after-order4 .before .before in
+    let a = after-parse .before .before .before .before .before .before .before .before .args in
     let k = a .n - 0 in
-    speaks-command (take (a .used) (a .table .now)) (a .line .now) (a .table .now) (c .before .before .before .before .before .before .do-writing .last .1 .1 .1 .0) (c .before .before .before .before .before .before .do-writing .last .1 .1 .1 .1 .0) (a .n) k (writing (c .before .before .before .before .before .before .before .before .before .before .before .before .order4 .given .0 .0)) (c .before .before .before .before .before .before .do-writing .result) (omega arith) (c .before .before .before .before .before .before .before .before .before .before .before .before .before .before .before .before .if1 .left) (sym (ap (meant (take k (a .line .now))) (c .before .before .before .before .before .before .before .before .before .before .before .before .order4 .given .1)) ∙ c .before .before .before .before .before .before .before .before .before .before .before .before .before .before .parse .ensures)
-    (c .before .before .before .before .before .before .do-writing .ensures)
+    speaks-command (take (a .used) (a .table .now)) _ (a .table .now) _ (after-do-writing .do-writing .last .1 .1 .1 .1 .0) (a .n) k
+    (writing (after-order4 .order4 .given .0 .0)) (after-do-writing .do-writing .result) (omega arith) (after-parse .before .before .if1 .left)
+    (sym (ap (meant (take k (a .line .now))) (after-order4 .order4 .given .1)) ∙ after-parse .parse .ensures) (after-do-writing .do-writing .ensures)
 
 pub answer-spec : {M : Type 1} → statement M
 answer-spec =

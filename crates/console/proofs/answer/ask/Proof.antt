@@ -13,7 +13,7 @@ same-length : tie.Need-same-length
 same-length c = search needs
 
 returns : tie.Need-returns
-returns c = printed question (c .before .before .put-question .ensures) (omega (arith, c .before .before .before .before .before .pre))
+returns c = printed question (c .before .before .put-question .ensures) (omega arith)
 
 pub ask-spec : {M : Type 1} → statement M
 ask-spec = tie.close (tie.spec put-question-requires same-length returns)

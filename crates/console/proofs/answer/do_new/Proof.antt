@@ -29,7 +29,11 @@ same-length-2 : tie.Need-same-length-2
 same-length-2 c = search needs
 
 returns : tie.Need-returns
-returns c = turns-new (take (c .before .before .before .before .before .before .before .before .before .before .before .before .args .used) (c .before .before .before .before .before .before .before .before .before .before .before .before .args .table .now)) (c .before .before .before .before .before .before .before .before .open-table .last .0) (c .before .before .tell .last .1 .0) (c .before .before .before .before .before .before .before .before .before .before .before .before .args .n) (c .before .before .tell .result) (c .before .before .before .before .before .before .before .before .open-table .result .used - 0) (c .before .before .before .before .before .before .before .before .open-table .result) (omega arith) (c .before .before .before .before .before .before .before .before .open-table .ensures) (c .before .before .tell .ensures)
+returns c =
+    let after-open-table = c .before .before .before .before .before .before .before .before in
+    let start = after-open-table .before .before .before .before in
+    turns-new (take (start .args .used) (start .args .table .now)) _ _ _ _ (after-open-table .open-table .result .used - 0) _ (omega arith)
+    (after-open-table .open-table .ensures) (c .before .before .tell .ensures)
 
 pub do-new-spec : {M : Type 1} → statement M
 do-new-spec =

@@ -43,9 +43,12 @@ same-length-3 c = search needs
 
 returns : tie.Need-returns
 returns c =
-    let a = c .before .before .before .before .before .before .before .before .before .before .before .before .before .before .before .before .args in
+    let after-operate = c .before .before .before .before .before .before .before .before .before .before in
+    let a = after-operate .before .before .before .before .before .before .args in
     let z : a .used - 0 ≡ a .used = omega arith in
-    turns-operation (a .table .now) (c .before .before .before .before .before .before .before .before .before .before .operate .last .0) _ (c .before .before .tell .last .1 .0) (a .used) (a .used - 0) (c .before .before .tell .result) (a .code) (a .a) (a .b) (a .v) (c .before .before .before .before .before .before .before .before .before .before .operate .result) z (c .before .before .before .before .before .before .before .before .before .before .operate .kept .0 ∙ length-take-le (a .used - 0) (a .table .now) (omega (arith, c .before .before .before .before .before .before .before .before .before .before .before .before .before .before .before .before .pre .0 .0)) ∙ z) (c .before .before .before .before .before .before .before .before .before .before .operate .ensures) (c .before .before .tell .ensures)
+    turns-operation (a .table .now) _ _ _ _ (a .used - 0) _ _ _ _ _ _ z
+    (after-operate .operate .kept .0 ∙ length-take-le (a .used - 0) (a .table .now) (omega arith) ∙ z) (after-operate .operate .ensures)
+    (c .before .before .tell .ensures)
 
 pub do-operation-spec : {M : Type 1} → statement M
 do-operation-spec =

@@ -2,7 +2,7 @@
 use native.Mathlib.Omega.{arith}
 use Prim.Native.Nat.{ℕ, _-_}
 use mathlib.Core.Path.{_≡_, ap, _∙_}
-use lib.ListN.{take, drop}
+use lib.ListN.{take}
 use lib.Seq.{length-take-le}
 use borrow.Author.Needs.{needs}
 use Rattle.console.specs.ReadLaws.{turns-reading}
@@ -59,11 +59,16 @@ same-length-4 c = search needs
 
 returns : tie.Need-returns
 returns c =
-    let a = c .before .before .before .before .before .before .before .before .before .before .before .before .before .before .before .before .before .before .before .before .before .before .before .before .args in
+    let after-read = c .before .before .before .before .before .before .before .before .before .before in
+    let after-fill-text = after-read .before .before .before .before .before .before .before in
+    let start = after-fill-text .before .before .before .before .before .before .before in
+    let a = start .args in
     let z : a .used - 0 ≡ a .used = omega arith in
-    let y : c .before .before .before .before .before .before .before .before .before .before .before .before .before .before .before .before .before .fill-text .result - 0 ≡ c .before .before .before .before .before .before .before .before .before .before .before .before .before .before .before .before .before .fill-text .result = omega arith in
-    turns-reading (a .table .now) (a .work .now) (c .before .before .before .before .before .before .before .before .before .before .read .last .1 .0) (c .before .before .before .before .before .before .before .before .before .before .read .last .0) _ (c .before .before .tell .last .1 .0) (drop (a .at) (a .line .now)) (c .before .before .before .before .before .before .before .before .before .before .before .before .before .before .before .before .before .fill-text .last .1 .1 .0) (a .h) (a .used) (a .used - 0) (c .before .before .before .before .before .before .before .before .before .before .before .before .before .before .before .before .before .fill-text .result - 0) (c .before .before .tell .result) (c .before .before .before .before .before .before .before .before .before .before .read .result) z
-    (c .before .before .before .before .before .before .before .before .before .before .read .kept .0 ∙ length-take-le (a .used - 0) (a .table .now) (omega (arith, c .before .before .before .before .before .before .before .before .before .before .before .before .before .before .before .before .before .before .before .before .before .before .before .before .pre .1 .0 .0)) ∙ z) (c .before .before .before .before .before .before .before .before .before .before .before .before .before .before .before .before .before .before .before .before .before .before .before .before .pre .1 .0 .1) (ap (λ (j : ℕ). take j (c .before .before .before .before .before .before .before .before .before .before .before .before .before .before .before .before .before .fill-text .last .1 .1 .0)) y ∙ c .before .before .before .before .before .before .before .before .before .before .before .before .before .before .before .before .before .fill-text .ensures .bytes) (c .before .before .before .before .before .before .before .before .before .before .read .ensures) (c .before .before .tell .ensures)
+    let y : after-fill-text .fill-text .result - 0 ≡ after-fill-text .fill-text .result = omega arith in
+    turns-reading (a .table .now) _ _ _ _ _ _ _ _ _ (a .used - 0) (after-fill-text .fill-text .result - 0) _ _ z
+    (after-read .read .kept .0 ∙ length-take-le (a .used - 0) (a .table .now) (omega arith) ∙ z) (start .pre .1 .0 .1)
+    (ap (λ (j : ℕ). take j (after-fill-text .fill-text .last .1 .1 .0)) y ∙ after-fill-text .fill-text .ensures .bytes) (after-read .read .ensures)
+    (c .before .before .tell .ensures)
 
 pub do-reading-spec : {M : Type 1} → statement M
 do-reading-spec =

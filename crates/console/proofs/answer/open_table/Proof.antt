@@ -25,7 +25,9 @@ fits-requires : tie.Need-fits-requires
 fits-requires c κs = search needs
 
 returns : tie.Need-returns
-returns c = keeps-old (c .before .before .before .args .table .now) (c .before .before .before .args .used) (c .before .before .before .args .n) (sym (c .before .fits2 .ensures) ∙ not-true _ (c .if1 .taken)) (c .before .before .before .pre .1)
+returns c =
+    let start = c .before .before .before in
+    keeps-old (start .args .table .now) _ _ (sym (c .before .fits2 .ensures) ∙ not-true _ (c .if1 .taken)) (start .pre .1)
 
 sub-set-up : tie.Need-sub-set-up
 sub-set-up c = search needs
@@ -34,7 +36,10 @@ part-set-up-start : tie.Need-part-set-up-start
 part-set-up-start c = search needs
 
 part-set-up-end : tie.Need-part-set-up-end
-part-set-up-end c = let f = fits-told (c .before .before .before .args .n) (tableWords (c .before .before .before .args .n)) (sym (c .before .fits2 .ensures) ∙ not-false _ (c .if1 .left)) in omega (arith, f .few, c .before .before .before .pre .0)
+part-set-up-end c =
+    let start = c .before .before .before in
+    let f = fits-told (start .args .n) (tableWords (start .args .n)) (sym (c .before .fits2 .ensures) ∙ not-false _ (c .if1 .left)) in
+    omega (arith, f .few, start .pre .0)
 
 set-up-requires : tie.Need-set-up-requires
 set-up-requires c κs = search needs
@@ -44,12 +49,15 @@ same-length c = search needs
 
 returns-2 : tie.Need-returns-2
 returns-2 c =
-    let a = c .before .before .before .before .before .before .before .args in
-    let e = sym (c .before .before .before .before .before .fits2 .ensures) ∙ not-false _ (c .before .before .before .before .if1 .left) in
+    let else1 = c .before .before .before .before in
+    let start = else1 .before .before .before in
+    let a = start .args in
+    let e = sym (else1 .before .fits2 .ensures) ∙ not-false _ (else1 .if1 .left) in
     let f = fits-told (a .n) (tableWords (a .n)) e in
     let z : tableWords (a .n) - 0 ≡ tableWords (a .n) = omega arith in
-    let k : length (take (tableWords (a .n) - 0) (a .table .now)) ≡ tableWords (a .n) = length-take-le (tableWords (a .n) - 0) (a .table .now) (omega (arith, f .few, c .before .before .before .before .before .before .before .pre .0)) ∙ z in
-    opens (take (a .used) (a .table .now)) (take (tableWords (a .n) - 0) (a .table .now)) (c .before .before .set-up .last .0) _ (a .n) e k (c .before .before .set-up .kept .0 ∙ k) (c .before .before .set-up .ensures)
+    let k : length (take (tableWords (a .n) - 0) (a .table .now)) ≡ tableWords (a .n) = length-take-le (tableWords (a .n) - 0) (a .table .now) (omega (arith, f .few, start .pre .0)) ∙ z in
+    opens (take (a .used) (a .table .now)) (take (tableWords (a .n) - 0) (a .table .now)) (c .before .before .set-up .last .0) _ (a .n) e k
+    (c .before .before .set-up .kept .0 ∙ k) (c .before .before .set-up .ensures)
 
 pub open-table-spec : {M : Type 1} → statement M
 open-table-spec =

@@ -19,7 +19,13 @@ same-length : tie.Need-same-length
 same-length c = search needs
 
 returns : tie.Need-returns
-returns c = subst (λ (f : ℕ). Prints (reply (c .before .before .before .before .before .before .before .args .answer) (c .before .before .before .before .before .before .before .args .kind) (c .before .before .before .before .before .before .before .args .value) f) (c .before .before .put-reply .result) (c .before .before .put-reply .last .0)) (c .before .before .before .before .free-cells .ensures) (printed (reply (c .before .before .before .before .before .before .before .args .answer) (c .before .before .before .before .before .before .before .args .kind) (c .before .before .before .before .before .before .before .args .value) (c .before .before .before .before .free-cells .result)) (c .before .before .put-reply .ensures) (omega (arith, c .before .before .before .before .before .before .before .pre, reply-short (c .before .before .before .before .before .before .before .args .answer) (c .before .before .before .before .before .before .before .args .kind) (c .before .before .before .before .before .before .before .args .value) (c .before .before .before .before .free-cells .result))))
+returns c =
+    let after-free-cells = c .before .before .before .before in
+    let a = after-free-cells .before .before .before .args in
+    subst (λ (f : ℕ). Prints (reply (a .answer) (a .kind) (a .value) f) (c .before .before .put-reply .result) (c .before .before .put-reply .last .0))
+    (after-free-cells .free-cells .ensures)
+    (printed (reply _ (a .kind) (a .value) (after-free-cells .free-cells .result)) (c .before .before .put-reply .ensures)
+    (omega (arith, reply-short (a .answer) (a .kind) (a .value) (after-free-cells .free-cells .result))))
 
 pub tell-spec : {M : Type 1} → statement M
 tell-spec = tie.close (tie.spec free-cells-requires put-reply-requires same-length returns)

@@ -16,7 +16,7 @@ abbrev μ-loop : tie.MeasureT-loop
 μ-loop s t n free₀ c₀ free c = n - c
 
 loop-holds : tie.Need-loop-holds Inv-loop μ-loop
-loop-holds c = (refl, counts-none (view (c .before .args .s) (c .before .args .t .now) .cells), omega arith)
+loop-holds c = (refl, counts-none _, omega arith)
 
 add-count-of : tie.Need-add-count-of Inv-loop μ-loop
 add-count-of c = search needs
@@ -28,7 +28,7 @@ one-if-free-requires : tie.Need-one-if-free-requires Inv-loop μ-loop
 one-if-free-requires c κs = search needs
 
 add-free : tie.Need-add-free Inv-loop μ-loop
-add-free c = omega (arith, c .before .before .before .loop .inv .1 .few, c .one-if-free .ensures .1, c .before .before .before .before .before .pre .few)
+add-free c = omega arith
 
 add-c : tie.Need-add-c Inv-loop μ-loop
 add-c c = search needs
@@ -37,10 +37,17 @@ loop-less : tie.Need-loop-less Inv-loop μ-loop
 loop-less c = search needs
 
 loop-again : tie.Need-loop-again Inv-loop μ-loop
-loop-again c = (c .before .before .before .loop .inv .0, counts-one (view (c .before .before .before .before .before .args .s) (c .before .before .before .before .before .args .t .now) .cells) (c .before .before .before .loop .c) (c .before .before .before .loop .free) (c .one-if-free .result) (c .before .before .before .loop .inv .1) (omega (arith, c .before .before .before .before .before .pre .measured)) (c .one-if-free .ensures .0 ∙ ap (λ (k : ℕ). same k 0) (c .before .count-of .ensures .0)) (c .one-if-free .ensures .1), omega arith)
+loop-again c =
+    let turn = c .before .before .before in (
+      turn .loop .inv .0,
+      counts-one _ _ _ _ (turn .loop .inv .1)
+          (omega arith) (c .one-if-free .ensures .0 ∙ ap (λ (k : ℕ). same k 0) (c .before .count-of .ensures .0))
+          (c .one-if-free .ensures .1),
+      omega arith,
+    )
 
 returns : tie.Need-returns Inv-loop μ-loop
-returns c = counts-all (view (c .before .before .before .args .s) (c .before .before .before .args .t .now) .cells) (c .before .loop .c) (c .before .loop .free) (c .before .loop .inv .1) (omega (arith, c .before .before .before .pre .measured))
+returns c = counts-all _ _ _ (c .before .loop .inv .1) (omega arith)
 
 pub count-free-spec : {M : Type 1} → statement M
 count-free-spec =

@@ -12,13 +12,15 @@ cells-of-requires : tie.Need-cells-of-requires
 cells-of-requires c κs = search needs
 
 returns : tie.Need-returns
-returns c = none-free (c .before .before .before .args .t .now) (c .before .cells-of .result) (c .before .cells-of .ensures) (c .if1 .taken)
+returns c = none-free _ _ (c .before .cells-of .ensures) (c .if1 .taken)
 
 count-free-requires : tie.Need-count-free-requires
-count-free-requires c κs = subst (λ (k : ℕ). Table (shape k) (c .before .before .before .args .t .now)) (sym (c .before .cells-of .ensures)) (cells-table (c .before .before .before .args .t .now) (λ q. c .if1 .left (c .before .cells-of .ensures ∙ q)))
+count-free-requires c κs =
+    subst (λ (k : ℕ). Table (shape k) (c .before .before .before .args .t .now)) (sym (c .before .cells-of .ensures))
+    (cells-table _ (λ q. c .if1 .left (c .before .cells-of .ensures ∙ q)))
 
 returns-2 : tie.Need-returns-2
-returns-2 c = c .count-free .ensures ∙ some-free (c .before .before .before .before .args .t .now) (c .before .before .cells-of .result) (c .before .before .cells-of .ensures)
+returns-2 c = c .count-free .ensures ∙ some-free _ _ (c .before .before .cells-of .ensures)
 
 pub free-cells-spec : {M : Type 1} → statement M
 free-cells-spec = tie.close (tie.spec cells-of-requires returns count-free-requires returns-2)

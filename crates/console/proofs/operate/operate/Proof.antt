@@ -31,7 +31,17 @@ same-length-2 : tie.Need-same-length-2
 same-length-2 c = search needs
 
 returns : tie.Need-returns
-returns c = says (c .before .before .before .before .before .before .before .before .before .before .before .before .args .table .now) (c .before .before .before .before .before .before .before .before .before .before .before .before .args .work .now) (c .before .before .before .before .before .before .before .before .before .before .before .before .args .code) (c .before .before .before .before .before .before .before .before .before .before .before .before .args .a) (c .before .before .before .before .before .before .before .before .before .before .before .before .args .b) (c .before .before .before .before .before .before .before .before .before .before .before .before .args .v) (c .before .before .before .before .before .before .before .before .before .before .before .before .pre) (record { table = c .before .before .before .before .before .run .ensures .table; answer = ap (λ (o : Outcome). o .answer) (c .before .before .before .before .before .run .ensures .outcome); kind = ap (λ (rs : List ℕ). getD rs 0 0) (c .before .before .before .before .before .run .ensures .results); value = ap (λ (rs : List ℕ). getD rs 1 0) (c .before .before .before .before .before .run .ensures .results) })
+returns c =
+    let after-run = c .before .before .before .before .before in
+    let start = after-run .before .before .before .before .before .before .before in
+    let a = start .args in
+    says (a .table .now) _ _ _ _ _ (start .pre)
+    (record {
+      table = after-run .run .ensures .table;
+      answer = ap (λ (o : Outcome). o .answer) (after-run .run .ensures .outcome);
+      kind = ap (λ (rs : List ℕ). getD rs 0 0) (after-run .run .ensures .results);
+      value = ap (λ (rs : List ℕ). getD rs 1 0) (after-run .run .ensures .results);
+    })
 
 pub operate-spec : {M : Type 1} → statement M
 operate-spec =

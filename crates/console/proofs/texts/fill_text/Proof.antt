@@ -17,7 +17,12 @@ same-length c = search needs
 returns : tie.Need-returns
 returns c =
     let a = c .before .before .before .before .before .before .args in
-    printed (filled (drop (a .at) (a .line .now))) (c .before .before .fill-record .ensures) (omega (arith, c .before .before .before .before .before .before .pre .1, filled-length (drop (a .at) (a .line .now)), filled-most (length (drop (a .at) (a .line .now))) (omega (arith, c .before .before .before .before .before .before .pre .0, length-drop (a .at) (a .line .now)))))
+    printed (filled (drop (a .at) (a .line .now))) (c .before .before .fill-record .ensures)
+    (omega (
+      arith,
+      filled-length (drop (a .at) (a .line .now)),
+      filled-most (length (drop (a .at) (a .line .now))) (omega (arith, length-drop (a .at) (a .line .now))),
+    ))
 
 pub fill-text-spec : {M : Type 1} → statement M
 fill-text-spec = tie.close (tie.spec fill-record-requires same-length returns)

@@ -24,7 +24,9 @@ shared-slice-read-if1 : tie.Need-shared-slice-read-if1 Inv-loop μ-loop
 shared-slice-read-if1 c = search needs
 
 returns : tie.Need-returns Inv-loop μ-loop
-returns c = (trim-end (c .before .before .before .before .args .text .now) (c .before .before .before .loop .i) (omega arith) (omega arith) (c .if1 .taken) ∙ c .before .before .before .loop .inv .1, c .before .before .before .loop .inv .0)
+returns c =
+    let turn = c .before .before .before in
+    (trim-end _ _ (omega arith) (omega arith) (c .if1 .taken) ∙ turn .loop .inv .1, turn .loop .inv .0)
 
 sub-i : tie.Need-sub-i Inv-loop μ-loop
 sub-i c = search needs
@@ -33,10 +35,15 @@ loop-less : tie.Need-loop-less Inv-loop μ-loop
 loop-less c = search needs
 
 loop-again : tie.Need-loop-again Inv-loop μ-loop
-loop-again c = (omega arith, trim-more (c .before .before .before .before .args .text .now) (c .before .before .before .loop .i) (omega arith) (omega arith) (c .if1 .left) ∙ c .before .before .before .loop .inv .1)
+loop-again c =
+    let turn = c .before .before .before in
+    (omega arith, trim-more _ (turn .loop .i) (omega arith) (omega arith) (c .if1 .left) ∙ turn .loop .inv .1)
 
 returns-2 : tie.Need-returns-2 Inv-loop μ-loop
-returns-2 c = let z : c .before .loop .i ≡ 0 = omega arith in (trim-none (c .before .before .args .text .now) ∙ ap (λ (k : ℕ). trimmed (take k (c .before .before .args .text .now))) (sym z) ∙ c .before .loop .inv .1, omega arith)
+returns-2 c =
+    let start = c .before .before in
+    let z : c .before .loop .i ≡ 0 = omega arith in
+    (trim-none (start .args .text .now) ∙ ap (λ (k : ℕ). trimmed (take k (start .args .text .now))) (sym z) ∙ c .before .loop .inv .1, omega arith)
 
 pub without-fill-spec : {M : Type 1} → statement M
 without-fill-spec =

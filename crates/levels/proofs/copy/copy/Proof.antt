@@ -18,72 +18,110 @@ use Rattle.levels.proofs.copy.copy.Tie as tie
 
 abbrev Inv-loop : tie.InvT-loop
 Inv-loop s t₀ x free₀ left₀ head₀ t free left head =
-    Table s t × Going over moved (Sure (holderCount s)) (length (view s t₀ .cells)) (copying (view s t₀ .cells) (view s t₀ .free) x 0) (copying (view s t .cells) free left head) × (view s t ≡ celled (view s t .cells) (view s t₀))
+    Table s t
+    × Going over moved (Sure (holderCount s)) (length (view s t₀ .cells)) (copying (view s t₀ .cells) (view s t₀ .free) x 0)
+    (copying (view s t .cells) free left head) × (view s t ≡ celled (view s t .cells) (view s t₀))
 
 abbrev μ-loop : tie.MeasureT-loop
 μ-loop s t₀ x free₀ left₀ head₀ t free left head = steps over moved (length (view s t₀ .cells)) (copying (view s t .cells) free left head)
 
 -- what a turn knows
-sure : (c : tie.In-loop Inv-loop μ-loop) → Sure (holderCount (c .before .before .before .before .before .args .s)) (copying (view (c .before .before .before .before .before .args .s) (c .before .loop .t) .cells) (c .before .loop .free) (c .before .loop .left) (c .before .loop .head))
+sure : (c : tie.In-loop Inv-loop μ-loop) →
+    let turn = c .before in
+    let start = turn .before .before .before .before in
+    Sure (holderCount (start .args .s)) (copying (view (start .args .s) (turn .loop .t) .cells) (turn .loop .free) (turn .loop .left) (turn .loop .head))
 sure c = before over moved _ (c .before .loop .inv .1) (ne-eqb _ 0 (c .loop-test .taken))
 
-cell : (c : tie.In-loop Inv-loop μ-loop) (x : ℕ) → InPool (view (c .before .before .before .before .before .args .s) (c .before .loop .t) .cells) x → IsCell (c .before .before .before .before .before .args .s) x
-cell c x i = record { low = i .0; high = omega (arith, i .1, c .before .loop .inv .0 .measured) }
+cell : (c : tie.In-loop Inv-loop μ-loop) (x : ℕ) →
+    InPool (view (c .before .before .before .before .before .args .s) (c .before .loop .t) .cells) x
+    → IsCell (c .before .before .before .before .before .args .s) x
+cell c x i = record { low = i .0; high = omega arith }
 
 -- what a turn has made
-went : (c : tie.After-slice-known2 Inv-loop μ-loop) → copying (view (c .before .before .before .before .before .before .before .before .before .before .before .before .before .args .s) (c .before .before .twin .last .1 .0) .cells) (c .before .before .before .before .next-of2 .result) (c .before .before .before .before .before .before .next-of .result) (c .before .before .before .before .before .before .before .before .before .loop .free)
-    ≡ moved (copying (view (c .before .before .before .before .before .before .before .before .before .before .before .before .before .args .s) (c .before .before .before .before .before .before .before .before .before .loop .t) .cells) (c .before .before .before .before .before .before .before .before .before .loop .free) (c .before .before .before .before .before .before .before .before .before .loop .left) (c .before .before .before .before .before .before .before .before .before .loop .head))
+went : (c : tie.After-slice-known2 Inv-loop μ-loop) →
+    let after-next-of2 = c .before .before .before .before in
+    let turn = after-next-of2 .before .before .before .before .before in
+    let start = turn .before .before .before .before in
+    copying (view (start .args .s) (c .before .before .twin .last .1 .0) .cells) (after-next-of2 .next-of2 .result)
+    (after-next-of2 .before .before .next-of .result) (turn .loop .free)
+    ≡ moved (copying (view (start .args .s) (turn .loop .t) .cells) (turn .loop .free) (turn .loop .left) (turn .loop .head))
 unfolding moved
 went c =
-    let cs = view (c .before .before .before .before .before .before .before .before .before .before .before .before .before .args .s) (c .before .before .before .before .before .before .before .before .before .loop .t) .cells in
-    let f = c .before .before .before .before .next-of2 .ensures .0 ∙ sym (share-next cs (item cs (c .before .before .before .before .before .before .before .before .before .loop .left)) (c .before .before .before .before .before .before .before .before .before .loop .free)) in
-    λ i. record { cells = c .before .before .twin .ensures .is i .cells; free = f i; left = c .before .before .before .before .before .before .next-of .ensures .0 i; head = c .before .before .before .before .before .before .before .before .before .loop .free }
+    let after-next-of2 = c .before .before .before .before in
+    let turn = after-next-of2 .before .before .before .before .before in
+    let start = turn .before .before .before .before in
+    let cs = view (start .args .s) (turn .loop .t) .cells in
+    let f = after-next-of2 .next-of2 .ensures .0 ∙ sym (share-next cs (item cs (turn .loop .left)) (turn .loop .free)) in
+    λ i. record {
+      cells = c .before .before .twin .ensures .is i .cells;
+      free = f i;
+      left = after-next-of2 .before .before .next-of .ensures .0 i;
+      head = turn .loop .free;
+    }
 
 -- what the loop has made
-done : (c : tie.After-loop Inv-loop μ-loop) → told (copying (view (c .before .before .before .before .before .args .s) (c .before .loop .t) .cells) (c .before .loop .free) (c .before .loop .left) (c .before .loop .head)) ≡ made (view (c .before .before .before .before .before .args .s) (c .before .before .before .before .before .args .t .now)) (c .before .before .before .before .before .args .x)
-done c =
-    let p = view (c .before .before .before .before .before .args .s) (c .before .before .before .before .before .args .t .now) in
-    ap told (finish over moved _ (c .before .loop .inv .1) (eq-eqb _ 0 (c .loop-test .left))) ∙ sym (is-copy (length (p .cells)) (p .free) (p .cells) (c .before .before .before .before .before .args .x) 0)
+done : (c : tie.After-loop Inv-loop μ-loop) →
+    let turn = c .before in
+    let start = turn .before .before .before .before in
+    let a = start .args in
+    told (copying (view (a .s) (turn .loop .t) .cells) (turn .loop .free) (turn .loop .left) (turn .loop .head)) ≡ made (view (a .s) (a .t .now)) (a .x)
+done c = ap told (finish over moved _ (c .before .loop .inv .1) (eq-eqb _ 0 (c .loop-test .left))) ∙ sym (is-copy _ _ _ _ 0)
 
 free-head-requires : tie.Need-free-head-requires Inv-loop μ-loop
 free-head-requires c κs = search needs
 
 loop-holds : tie.Need-loop-holds Inv-loop μ-loop
-loop-holds c = (c .before .before .before .pre .0, rw (c .free-head .ensures .0) (begin over moved (c .before .before .before .pre .1 .ends)), refl)
+loop-holds c =
+    let start = c .before .before .before in
+    (start .pre .0, rw (c .free-head .ensures .0) (begin over moved (start .pre .1 .ends)), refl)
 
 next-of-requires : tie.Need-next-of-requires Inv-loop μ-loop
 next-of-requires c κs = (c .before .before .loop .inv .0, cell (c .before) _ (sure (c .before) .here))
 
 next-of-requires-2 : tie.Need-next-of-requires-2 Inv-loop μ-loop
-next-of-requires-2 c κs = (c .before .before .before .before .loop .inv .0, cell (c .before .before .before) _ (sure (c .before .before .before) .free))
+next-of-requires-2 c κs =
+    let turn = c .before .before .before .before in
+    (turn .loop .inv .0, cell (c .before .before .before) _ (sure (c .before .before .before) .free))
 
 twin-requires : tie.Need-twin-requires Inv-loop μ-loop
-twin-requires c κs = (c .before .before .before .before .before .before .loop .inv .0, sure (c .before .before .before .before .before))
+twin-requires c κs =
+    let turn = c .before .before .before .before .before .before in
+    (turn .loop .inv .0, sure (c .before .before .before .before .before))
 
 loop-less : tie.Need-loop-less Inv-loop μ-loop
-loop-less c = less over moved _ (c .before .before .before .before .before .before .before .before .before .loop .inv .1) (ne-eqb _ 0 (c .before .before .before .before .before .before .before .before .loop-test .taken)) (went c)
+loop-less c =
+    let in-loop = c .before .before .before .before .before .before .before .before in
+    less over moved _ (in-loop .before .loop .inv .1) (ne-eqb _ 0 (in-loop .loop-test .taken)) (went c)
 
 loop-again : tie.Need-loop-again Inv-loop μ-loop
 loop-again c =
+    let in-loop = c .before .before .before .before .before .before .before .before in
     let k = c .before .before .twin .ensures in
-    let i = c .before .before .before .before .before .before .before .before .before .loop .inv in
-    (k .table, again over moved _ (i .1) (ne-eqb _ 0 (c .before .before .before .before .before .before .before .before .loop-test .taken)) (went c), pool-path (ap (λ (p : Pool). p .free) (k .is) ∙ ap (λ (p : Pool). p .free) (i .2)) (ap (λ (p : Pool). p .holders) (k .is) ∙ ap (λ (p : Pool). p .holders) (i .2)) refl)
+    let i = in-loop .before .loop .inv in (
+      k .table,
+      again over moved _ (i .1) (ne-eqb _ 0 (in-loop .loop-test .taken)) (went c),
+      pool-path (ap (λ (p : Pool). p .free) (k .is) ∙ ap (λ (p : Pool). p .free) (i .2))
+          (ap (λ (p : Pool). p .holders) (k .is) ∙ ap (λ (p : Pool). p .holders) (i .2)) refl,
+    )
 
 set-free-requires : tie.Need-set-free-requires Inv-loop μ-loop
 set-free-requires c κs =
     let i = c .before .before .loop .inv in
     let d = done (c .before) in
-    (i .0, omega (arith, c .before .before .before .before .before .before .pre .1 .top, ap (λ (z : Made). z .free) d, ap (λ (z : Made). length (z .cells)) d, i .0 .measured))
+    (i .0, omega (arith, ap (λ (z : Made). z .free) d, ap (λ (z : Made). length (z .cells)) d))
 
 same-length : tie.Need-same-length Inv-loop μ-loop
-same-length c = c .before .before .set-free .ensures .table .sized ∙ sym (c .before .before .before .before .before .before .before .before .before .pre .0 .sized)
+same-length c = search needs
 
 returns : tie.Need-returns Inv-loop μ-loop
 returns c =
-    let a = c .before .before .before .before .before .before .before .before .before .args in
+    let turn = c .before .before .before .before .before in
+    let a = turn .before .before .before .before .args in
     let p = view (a .s) (a .t .now) in
-    let d = done (c .before .before .before .before) in
-    (ap (λ (z : Made). z .head) d, said (c .before .before .set-free .ensures) (ap (putFree (c .before .before .before .before .before .loop .free)) (c .before .before .before .before .before .loop .inv .2) ∙ ap (λ (z : Made). placed z p) d))
+    let d = done (c .before .before .before .before) in (
+      ap (λ (z : Made). z .head) d,
+      said (c .before .before .set-free .ensures) (ap (putFree (turn .loop .free)) (turn .loop .inv .2) ∙ ap (λ (z : Made). placed z p) d),
+    )
 
 pub copy-spec : {M : Type 1} → statement M
 copy-spec =

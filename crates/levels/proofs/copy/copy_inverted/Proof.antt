@@ -18,26 +18,31 @@ holder-of-requires c κs = search needs
 
 copy-requires : tie.Need-copy-requires
 copy-requires c κs =
-    let c0 = c .before .before .before .before in
-    let a = c0 .args in
-    let p = view (a .s) (a .t .now) in
-    (c0 .pre .0, rw (c .before .holder-of .ensures .0) (subst (λ m. Copies m p (holder p (a .a))) (c0 .pre .0 .held) (room-copies p (a .a) (a .b) (c0 .pre .1 .1 .0) (omega (arith, c0 .pre .0 .held, c0 .pre .1 .0 .1)) (c0 .pre .1 .1 .1 .0) (c0 .pre .1 .1 .1 .1))))
+    let start = c .before .before .before .before in
+    let a = start .args in
+    let p = view (a .s) (a .t .now) in (
+      start .pre .0,
+      rw (c .before .holder-of .ensures .0)
+          (subst (λ m. Copies m p (holder p (a .a))) (start .pre .0 .held)
+          (room-copies p _ _ (start .pre .1 .1 .0) (omega arith) (start .pre .1 .1 .1 .0)
+          (start .pre .1 .1 .1 .1))),
+    )
 
 set-holder-requires : tie.Need-set-holder-requires
 set-holder-requires c κs =
-    let c0 = c .before .before .before .before .before .before .before .before in
-    let a = c0 .args in
+    let after-copy = c .before .before .before in
+    let start = after-copy .before .before .before .before .before in
+    let a = start .args in
     let p = view (a .s) (a .t .now) in
-    let d = c .before .before .before .copy .ensures in (
+    let d = after-copy .copy .ensures in (
       d .1 .table,
       (
-        c0 .pre .1 .0 .1,
-        rw (d .0, c .before .before .before .before .before .holder-of .ensures .0)
+        start .pre .1 .0 .1,
+        rw (d .0, after-copy .before .before .holder-of .ensures .0)
             (omega (
               arith,
-              head-top p (a .a) (a .b) (c0 .pre .1 .1 .0) (omega (arith, c0 .pre .0 .held, c0 .pre .1 .0 .1)) (c0 .pre .1 .1 .1 .0) (c0 .pre .1 .1 .1 .1),
-              d .1 .table .measured,
-              ap (λ (q : Pool). length (q .cells)) (d .1 .is) ∙ ap (λ (y : ℕ). length (made p y .cells)) (c .before .before .before .before .before .holder-of .ensures .0),
+              head-top _ _ (a .b) (start .pre .1 .1 .0) (omega arith) (start .pre .1 .1 .1 .0) (start .pre .1 .1 .1 .1),
+              ap (λ (q : Pool). length (q .cells)) (d .1 .is) ∙ ap (λ (y : ℕ). length (made p y .cells)) (after-copy .before .before .holder-of .ensures .0),
             )),
       ),
     )
@@ -47,12 +52,14 @@ same-length c = search needs
 
 returns : tie.Need-returns
 returns c =
-    let a = c .before .before .before .before .before .before .before .before .before .before .before .args in
+    let after-copy = c .before .before .before .before .before .before in
+    let a = after-copy .before .before .before .before .before .args in
     let p = view (a .s) (a .t .now) in
-    let d = c .before .before .before .before .before .before .copy .ensures in
-    let ex = c .before .before .before .before .before .before .before .before .holder-of .ensures .0 in
-    said (after (putHolder (a .b) (c .before .before .before .before .before .before .copy .result)) (d .1) (c .before .before .set-holder .ensures))
-    (ap (λ (z : ℕ). putHolder (a .b) z (placed (made p (c .before .before .before .before .before .before .before .before .holder-of .result)) p)) (d .0) ∙ ap (λ (y : ℕ). putHolder (a .b) (made p y .head) (placed (made p y) p)) ex ∙ is-cinv p (a .a) (a .b))
+    let d = after-copy .copy .ensures in
+    let ex = after-copy .before .before .holder-of .ensures .0 in
+    said (after (putHolder (a .b) (after-copy .copy .result)) (d .1) (c .before .before .set-holder .ensures))
+    (ap (λ (z : ℕ). putHolder (a .b) z (placed (made p (after-copy .before .before .holder-of .result)) p)) (d .0)
+    ∙ ap (λ (y : ℕ). putHolder (a .b) (made p y .head) (placed (made p y) p)) ex ∙ is-cinv _ _ _)
 
 pub copy-inverted-spec : {M : Type 1} → statement M
 copy-inverted-spec =

@@ -2,7 +2,6 @@
 use native.Mathlib.Omega.{arith}
 use borrow.Author.Needs.{needs}
 use Rattle.table.specs.Fields.{cell, putCell}
-use Rattle.table.specs.View.{view}
 use Rattle.table.specs.ViewLaws.{after, said}
 use Rattle.levels.specs.CopyingLaws.{is-twin}
 use Rattle.levels.proofs.copy.twin.Statement.{statement}
@@ -19,9 +18,9 @@ item-of-requires c κs = search needs
 
 share-requires : tie.Need-share-requires
 share-requires c κs =
-    let c0 = c .before .before .before .before .before .before .before .before in
-    let k = c0 .pre .1 in
-    (c0 .pre .0, rw (c .before .item-of .ensures) (omega (arith, k .elem, c0 .pre .0 .measured), λ n. omega (arith, k .more n, c0 .pre .0 .measured)))
+    let start = c .before .before .before .before .before .before .before .before in
+    let k = start .pre .1 in
+    (start .pre .0, rw (c .before .item-of .ensures) (omega arith, λ n. omega (arith, k .more n)))
 
 set-cell-requires : tie.Need-set-cell-requires
 set-cell-requires c κs = search needs
@@ -31,9 +30,14 @@ same-length c = search needs
 
 returns : tie.Need-returns
 returns c =
-    let a = c .before .before .before .before .before .before .before .before .before .before .before .before .before .before .before .args in
-    said (after (putCell (a .f) (cell (c .before .before .before .before .before .before .before .before .before .before .before .before .kind-of .result) (c .before .before .before .before .before .before .before .before .before .before .elem-of .result) 1 (a .y))) (c .before .before .before .before .before .before .share .ensures) (c .before .before .set-cell .ensures))
-    (is-twin (view (a .s) (a .t .now)) (a .f) (a .x) (a .y) (c .before .before .before .before .before .before .before .before .before .before .before .before .kind-of .ensures) (c .before .before .before .before .before .before .before .before .before .before .elem-of .ensures) (c .before .before .before .before .before .before .before .before .item-of .ensures))
+    let after-share = c .before .before .before .before .before .before in
+    let after-elem-of = after-share .before .before .before .before in
+    let a = after-elem-of .before .before .before .before .before .args in
+    said
+    (after (putCell (a .f) (cell (after-elem-of .before .before .kind-of .result) (after-elem-of .elem-of .result) 1 (a .y))) (after-share .share .ensures)
+    (c .before .before .set-cell .ensures))
+    (is-twin _ (a .f) (a .x) _ (after-elem-of .before .before .kind-of .ensures) (after-elem-of .elem-of .ensures)
+    (after-share .before .before .item-of .ensures))
 
 pub twin-spec : {M : Type 1} → statement M
 twin-spec =

@@ -18,25 +18,28 @@ holder-of-requires c κs = search needs
 
 turn-requires : tie.Need-turn-requires
 turn-requires c κs =
-    let c0 = c .before .before .before .before in
-    let a = c0 .args in
-    (c0 .pre .0, rw (c .before .holder-of .ensures .0) (own-turns (view (a .s) (a .t .now)) (a .a) (c0 .pre .1 .1 .0) (omega (arith, c0 .pre .0 .held, c0 .pre .1 .0)) (c0 .pre .1 .1 .1)))
+    let start = c .before .before .before .before in (
+      start .pre .0,
+      rw (c .before .holder-of .ensures .0)
+          (own-turns _ _ (start .pre .1 .1 .0) (omega arith) (start .pre .1 .1 .1)),
+    )
 
 set-holder-requires : tie.Need-set-holder-requires
 set-holder-requires c κs =
-    let c0 = c .before .before .before .before .before .before .before .before in
-    let a = c0 .args in
+    let after-turn = c .before .before .before in
+    let start = after-turn .before .before .before .before .before in
+    let a = start .args in
     let p = view (a .s) (a .t .now) in
-    let d = c .before .before .before .turn .ensures in (
+    let d = after-turn .turn .ensures in (
       d .1 .table,
       (
-        c0 .pre .1 .0,
-        rw (d .0, c .before .before .before .before .before .holder-of .ensures .0)
+        start .pre .1 .0,
+        rw (d .0, after-turn .before .before .holder-of .ensures .0)
             (omega (
               arith,
-              head-top p (a .a) (c0 .pre .1 .1 .0) (omega (arith, c0 .pre .0 .held, c0 .pre .1 .0)) (c0 .pre .1 .1 .1),
-              d .1 .table .measured,
-              ap (λ (q : Pool). length (q .cells)) (d .1 .is) ∙ ap (λ (y : ℕ). length (flip (length (p .cells)) (p .cells) y 0 .0)) (c .before .before .before .before .before .holder-of .ensures .0),
+              head-top _ _ (start .pre .1 .1 .0) (omega arith) (start .pre .1 .1 .1),
+              ap (λ (q : Pool). length (q .cells)) (d .1 .is)
+                  ∙ ap (λ (y : ℕ). length (flip (length (p .cells)) (p .cells) y 0 .0)) (after-turn .before .before .holder-of .ensures .0),
             )),
       ),
     )
@@ -46,14 +49,15 @@ same-length c = search needs
 
 returns : tie.Need-returns
 returns c =
-    let a = c .before .before .before .before .before .before .before .before .before .before .before .args in
+    let after-turn = c .before .before .before .before .before .before in
+    let a = after-turn .before .before .before .before .before .args in
     let p = view (a .s) (a .t .now) in
-    let d = c .before .before .before .before .before .before .turn .ensures in
+    let d = after-turn .turn .ensures in
     let n = length (p .cells) in
     let cs = p .cells in
-    said (after (putHolder (a .a) (c .before .before .before .before .before .before .turn .result)) (d .1) (c .before .before .set-holder .ensures))
-    (ap (λ (z : ℕ). putHolder (a .a) z (celled (flip n cs (c .before .before .before .before .before .before .before .before .holder-of .result) 0 .0) p)) (d .0)
-    ∙ ap (λ (y : ℕ). putHolder (a .a) (flip n cs y 0 .1) (celled (flip n cs y 0 .0) p)) (c .before .before .before .before .before .before .before .before .holder-of .ensures .0) ∙ is-inv p (a .a))
+    said (after (putHolder (a .a) (after-turn .turn .result)) (d .1) (c .before .before .set-holder .ensures))
+    (ap (λ (z : ℕ). putHolder (a .a) z (celled (flip n cs (after-turn .before .before .holder-of .result) 0 .0) p)) (d .0)
+    ∙ ap (λ (y : ℕ). putHolder (a .a) (flip n cs y 0 .1) (celled (flip n cs y 0 .0) p)) (after-turn .before .before .holder-of .ensures .0) ∙ is-inv _ _)
 
 pub invert-spec : {M : Type 1} → statement M
 invert-spec =

@@ -22,15 +22,23 @@ same-length : tie.Need-same-length
 same-length c = search needs
 
 returns : tie.Need-returns
-returns c = let a = c .before .before .before .before .args in said (itself (c .before .before .before .before .pre .0)) (join-none (view (a .s) (a .t .now)) (a .a) (a .b) (sym (c .before .holder-of .ensures .0) ∙ c .if1 .taken))
+returns c =
+    let start = c .before .before .before .before in
+    said (itself (start .pre .0)) (join-none _ _ _ (sym (c .before .holder-of .ensures .0) ∙ c .if1 .taken))
 
 holder-of-requires-2 : tie.Need-holder-of-requires-2
 holder-of-requires-2 c κs = search needs
 
 set-holder-requires : tie.Need-set-holder-requires
 set-holder-requires c κs =
-    let c0 = c .before .before .before .before .before .before .before .before in
-    (c0 .pre .0, (c0 .pre .1 .0 .0, rw (c .before .before .before .before .before .holder-of .ensures .0) (holder-high (c0 .args .s) (c0 .args .t .now) (c0 .pre .0) (c0 .pre .1 .1 .0) (c0 .args .b))))
+    let after-holder-of = c .before .before .before .before .before in
+    let start = after-holder-of .before .before .before in (
+      start .pre .0,
+      (
+        start .pre .1 .0 .0,
+        rw (after-holder-of .holder-of .ensures .0) (holder-high _ _ (start .pre .0) (start .pre .1 .1 .0) _),
+      ),
+    )
 
 set-holder-requires-2 : tie.Need-set-holder-requires-2
 set-holder-requires-2 c κs = search needs
@@ -40,22 +48,32 @@ same-length-2 c = search needs
 
 returns-2 : tie.Need-returns-2
 returns-2 c =
-    let a = c .before .before .before .before .before .before .before .before .before .before .before .before .before .before .before .args in
+    let after-set-holder = c .before .before .before .before .before .before in
+    let then2 = after-set-holder .before .before in
+    let else1 = then2 .before .before .before in
+    let a = else1 .before .before .before .before .args in
     let p = view (a .s) (a .t .now) in
-    let ey = c .before .before .before .before .before .before .before .before .before .before .before .before .holder-of .ensures .0 in
-    said (after (putHolder (a .b) 0) (c .before .before .before .before .before .before .set-holder .ensures) (c .before .before .set-holder2 .ensures))
-    (ap (λ (y : ℕ). putHolder (a .b) 0 (putHolder (a .a) y p)) ey ∙ join-null p (a .a) (a .b) (sym (c .before .before .before .before .before .before .before .before .before .holder-of2 .ensures .0) ∙ c .before .before .before .before .before .before .before .before .if2 .taken) (λ q. c .before .before .before .before .before .before .before .before .before .before .before .if1 .left (ey ∙ q)))
+    let ey = else1 .before .holder-of .ensures .0 in
+    said (after (putHolder (a .b) 0) (after-set-holder .set-holder .ensures) (c .before .before .set-holder2 .ensures))
+    (ap (λ (y : ℕ). putHolder (a .b) 0 (putHolder (a .a) y p)) ey
+    ∙ join-null _ _ _ (sym (then2 .before .holder-of2 .ensures .0) ∙ then2 .if2 .taken) (λ q. else1 .if1 .left (ey ∙ q)))
 
 set-next-requires : tie.Need-set-next-requires
 set-next-requires c κs =
-    let c0 = c .before .before .before .before .before .before .before .before in
-    let a = c0 .args in
+    let else1 = c .before .before .before .before in
+    let start = else1 .before .before .before .before in
+    let a = start .args in
     let p = view (a .s) (a .t .now) in
     let na : holder p (a .a) ≢ 0 = λ q. c .before .if2 .left (c .before .before .holder-of2 .ensures .0 ∙ q) in
-    let nb : holder p (a .b) ≢ 0 = λ q. c .before .before .before .before .if1 .left (c .before .before .before .before .before .holder-of .ensures .0 ∙ q) in
-    let e = c0 .pre .1 .1 .1 nb .1 na in
-    let i = last-cell p (a .a) (c0 .pre .1 .1 .0) na in
-    (c0 .pre .0, (record { low = omega (arith, e, i .0); high = omega (arith, e, i .1, c0 .pre .0 .measured) }, rw (c .before .before .before .before .before .holder-of .ensures .0) (holder-high (a .s) (a .t .now) (c0 .pre .0) (c0 .pre .1 .1 .0) (a .b))))
+    let nb : holder p (a .b) ≢ 0 = λ q. else1 .if1 .left (else1 .before .holder-of .ensures .0 ∙ q) in
+    let e = start .pre .1 .1 .1 nb .1 na in
+    let i = last-cell _ _ (start .pre .1 .1 .0) na in (
+      start .pre .0,
+      (
+        record { low = omega (arith, e, i .0); high = omega (arith, e, i .1, start .pre .0 .measured) },
+        rw (else1 .before .holder-of .ensures .0) (holder-high _ _ (start .pre .0) (start .pre .1 .1 .0) _),
+      ),
+    )
 
 set-holder-requires-3 : tie.Need-set-holder-requires-3
 set-holder-requires-3 c κs = search needs
@@ -65,15 +83,18 @@ same-length-3 c = search needs
 
 returns-3 : tie.Need-returns-3
 returns-3 c =
-    let c0 = c .before .before .before .before .before .before .before .before .before .before .before .before .before .before .before in
-    let a = c0 .args in
+    let after-set-next = c .before .before .before .before .before .before in
+    let else2 = after-set-next .before .before in
+    let else1 = else2 .before .before .before in
+    let start = else1 .before .before .before .before in
+    let a = start .args in
     let p = view (a .s) (a .t .now) in
-    let ey = c .before .before .before .before .before .before .before .before .before .before .before .before .holder-of .ensures .0 in
-    let na : holder p (a .a) ≢ 0 = λ q. c .before .before .before .before .before .before .before .before .if2 .left (c .before .before .before .before .before .before .before .before .before .holder-of2 .ensures .0 ∙ q) in
-    let nb : holder p (a .b) ≢ 0 = λ q. c .before .before .before .before .before .before .before .before .before .before .before .if1 .left (ey ∙ q) in
-    let el = c0 .pre .1 .1 .1 nb .1 na in
-    let e : putHolder (a .b) 0 (putNext (a .last) (c .before .before .before .before .before .before .before .before .before .before .before .before .holder-of .result) p) ≡ putHolder (a .b) 0 (putNext (lastOf (length (p .cells)) (p .cells) (holder p (a .a))) (holder p (a .b)) p) = λ i. putHolder (a .b) 0 (putNext (el i) (ey i) p) in
-    said (after (putHolder (a .b) 0) (c .before .before .before .before .before .before .set-next .ensures) (c .before .before .set-holder3 .ensures)) (e ∙ join-last p (a .a) (a .b) na nb)
+    let ey = else1 .before .holder-of .ensures .0 in
+    let na : holder p (a .a) ≢ 0 = λ q. else2 .if2 .left (else2 .before .holder-of2 .ensures .0 ∙ q) in
+    let nb : holder p (a .b) ≢ 0 = λ q. else1 .if1 .left (ey ∙ q) in
+    let el = start .pre .1 .1 .1 nb .1 na in
+    let e : putHolder (a .b) 0 (putNext (a .last) (else1 .before .holder-of .result) p) ≡ putHolder (a .b) 0 (putNext (lastOf (length (p .cells)) (p .cells) (holder p (a .a))) (holder p (a .b)) p) = λ i. putHolder (a .b) 0 (putNext (el i) (ey i) p) in
+    said (after (putHolder (a .b) 0) (after-set-next .set-next .ensures) (c .before .before .set-holder3 .ensures)) (e ∙ join-last _ _ _ na nb)
 
 pub concatenate-spec : {M : Type 1} → statement M
 concatenate-spec =

@@ -17,11 +17,16 @@ abbrev μ-loop : tie.MeasureT-loop
 μ-loop s t a x₀ f₀ x f = span (length (view s t .cells)) (view s t .cells) x
 
 -- what a turn knows
-both : (c : tie.Else1 Inv-loop μ-loop) → Pair (view (c .before .before .before .before .before .before .args .s) (c .before .before .before .before .before .before .args .t .now)) (c .before .before .before .before .before .before .args .a) (c .before .before .loop .x) (c .before .before .loop .f)
+both : (c : tie.Else1 Inv-loop μ-loop) →
+    let turn = c .before .before in
+    let start = turn .before .before .before .before in
+    Pair (view (start .args .s) (start .args .t .now)) (start .args .a) (turn .loop .x) (turn .loop .f)
 both c = pair _ _ _ _ (c .before .loop-test .taken) (c .if1 .left) (c .before .before .loop .inv)
 
-cell : (c : tie.Else1 Inv-loop μ-loop) (x : ℕ) → InPool (view (c .before .before .before .before .before .before .args .s) (c .before .before .before .before .before .before .args .t .now) .cells) x → IsCell (c .before .before .before .before .before .before .args .s) x
-cell c x i = record { low = i .0; high = omega (arith, i .1, c .before .before .before .before .before .before .pre .0 .measured) }
+cell : (c : tie.Else1 Inv-loop μ-loop) (x : ℕ) →
+    InPool (view (c .before .before .before .before .before .before .args .s) (c .before .before .before .before .before .before .args .t .now) .cells) x
+    → IsCell (c .before .before .before .before .before .before .args .s) x
+cell c x i = record { low = i .0; high = omega arith }
 
 holder-of-requires : tie.Need-holder-of-requires Inv-loop μ-loop
 holder-of-requires c κs = search needs
@@ -30,16 +35,20 @@ free-head-requires : tie.Need-free-head-requires Inv-loop μ-loop
 free-head-requires c κs = search needs
 
 loop-holds : tie.Need-loop-holds Inv-loop μ-loop
-loop-holds c = let c0 = c .before .before .before in rw (c .before .holder-of .ensures .0, c .free-head .ensures .0) (beside (view (c0 .args .s) (c0 .args .t .now)) (c0 .args .a) (c0 .pre .1 .1))
+loop-holds c = rw (c .before .holder-of .ensures .0, c .free-head .ensures .0) (beside _ _ (c .before .before .before .pre .1 .1))
 
 returns : tie.Need-returns Inv-loop μ-loop
 returns c = too-few _ _ _ _ (c .before .loop-test .taken) (c .if1 .taken) (c .before .before .loop .inv)
 
 next-of-requires : tie.Need-next-of-requires Inv-loop μ-loop
-next-of-requires c κs = (c .before .before .before .before .before .before .pre .0, cell c _ (both c .here .inside))
+next-of-requires c κs =
+    let start = c .before .before .before .before .before .before in
+    (start .pre .0, cell c _ (both c .here .inside))
 
 next-of-requires-2 : tie.Need-next-of-requires-2 Inv-loop μ-loop
-next-of-requires-2 c κs = (c .before .before .before .before .before .before .before .pre .0, cell (c .before) _ (both (c .before) .free))
+next-of-requires-2 c κs =
+    let start = c .before .before .before .before .before .before .before in
+    (start .pre .0, cell (c .before) _ (both (c .before) .free))
 
 loop-less : tie.Need-loop-less Inv-loop μ-loop
 loop-less c = rw (c .before .next-of .ensures .0) (omega (arith, both (c .before .before) .here .longer))

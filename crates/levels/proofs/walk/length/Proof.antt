@@ -18,38 +18,53 @@ abbrev μ-loop : tie.MeasureT-loop
 μ-loop s t a x₀ n₀ x n = span (length (view s t .cells)) (view s t .cells) x
 
 -- what a turn knows
-here : (c : tie.In-loop Inv-loop μ-loop) → Onward (view (c .before .before .before .before .args .s) (c .before .before .before .before .args .t .now) .cells) (c .before .loop .x)
+here : (c : tie.In-loop Inv-loop μ-loop) →
+    let start = c .before .before .before .before in
+    Onward (view (start .args .s) (start .args .t .now) .cells) (c .before .loop .x)
 here c = onward _ _ (c .loop-test .taken) (c .before .loop .inv .0)
 
-cell : (c : tie.In-loop Inv-loop μ-loop) → IsCell (c .before .before .before .before .args .s) (c .before .loop .x)
-cell c = record { low = here c .inside .0; high = omega (arith, here c .inside .1, c .before .before .before .before .pre .0 .measured) }
+cell : (c : tie.In-loop Inv-loop μ-loop) →
+    let start = c .before .before .before .before in
+    IsCell (start .args .s) (c .before .loop .x)
+cell c = record { low = here c .inside .0; high = omega (arith, here c .inside .1) }
 
 holder-of-requires : tie.Need-holder-of-requires Inv-loop μ-loop
 holder-of-requires c κs = search needs
 
 loop-holds : tie.Need-loop-holds Inv-loop μ-loop
-loop-holds c = let c0 = c .before .before in rw (c .holder-of .ensures .0) (all-left _ (c0 .args .a) (c0 .pre .1 .1), omega arith)
+loop-holds c = rw (c .holder-of .ensures .0) (all-left _ _ (c .before .before .pre .1 .1), omega arith)
 
 add-n : tie.Need-add-n Inv-loop μ-loop
 add-n c =
     let a = c .before .before .before .before .args in
-    omega (arith, c .before .loop .inv .1, here c .longer, span-le (length (view (a .s) (a .t .now) .cells)) (view (a .s) (a .t .now) .cells) (holder (view (a .s) (a .t .now)) (a .a)), c .before .before .before .before .pre .0 .measured, c .before .before .before .before .pre .0 .few)
+    omega (arith, here c .longer, span-le (length (view (a .s) (a .t .now) .cells)) (view (a .s) (a .t .now) .cells) (holder (view (a .s) (a .t .now)) (a .a)))
 
 next-of-requires : tie.Need-next-of-requires Inv-loop μ-loop
-next-of-requires c κs = (c .before .before .before .before .pre .0, cell c)
+next-of-requires c κs =
+    let start = c .before .before .before .before in
+    (start .pre .0, cell c)
 
 loop-less : tie.Need-loop-less Inv-loop μ-loop
 loop-less c = rw (c .next-of .ensures .0) (omega (arith, here (c .before) .longer))
 
 loop-again : tie.Need-loop-again Inv-loop μ-loop
-loop-again c = rw (c .next-of .ensures .0) (here (c .before) .rest, omega (arith, here (c .before) .longer, c .before .before .loop .inv .1))
+loop-again c = rw (c .next-of .ensures .0) (here (c .before) .rest, omega (arith, here (c .before) .longer))
 
 returns : tie.Need-returns Inv-loop μ-loop
 returns c =
-    let a = c .before .before .before .before .args in
+    let start = c .before .before .before .before in
+    let a = start .args in
     let e = c .before .loop .inv .1 in
-    let z = none-left (view (a .s) (a .t .now) .cells) (c .before .loop .x) (c .loop-test .left) .0 in
-    (omega (arith, e, z), omega (arith, e, z, span-le (length (view (a .s) (a .t .now) .cells)) (view (a .s) (a .t .now) .cells) (holder (view (a .s) (a .t .now)) (a .a)), c .before .before .before .before .pre .0 .measured))
+    let z = none-left (view (a .s) (a .t .now) .cells) (c .before .loop .x) (c .loop-test .left) .0 in (
+      omega (arith, e, z),
+      omega (
+        arith,
+        e,
+        z,
+        span-le (length (view (a .s) (a .t .now) .cells)) (view (a .s) (a .t .now) .cells) (holder (view (a .s) (a .t .now)) (a .a)),
+        start .pre .0 .measured,
+      ),
+    )
 
 pub length-spec : {M : Type 1} → statement M
 length-spec =

@@ -11,7 +11,10 @@ add-at : tie.Need-add-at
 add-at c = search needs
 
 returns : tie.Need-returns
-returns c = (byte-ends (c .before .before .args .line .now) (c .before .before .args .g) (c .before .before .args .b) (c .before .before .args .g .at + 1) (c .before .before .pre .1 .0 .1) (c .if1 .taken), refl, c .before .before .pre .1 .0 .0)
+returns c =
+    let start = c .before .before in
+    let a = start .args in
+    (byte-ends (a .line .now) (a .g) _ (a .g .at + 1) (start .pre .1 .0 .1) (c .if1 .taken), refl, start .pre .1 .0 .0)
 
 slice-write-line : tie.Need-slice-write-line
 slice-write-line c = search needs
@@ -23,10 +26,16 @@ same-length : tie.Need-same-length
 same-length c = search needs
 
 returns-2 : tie.Need-returns-2
-returns-2 c = (byte-kept (c .before .before .before .args .line .now) (c .before .before .before .args .g) (c .before .before .before .args .b) (c .before .before .before .args .g .at + 1) (c .before .before .before .pre .1 .0 .1) (c .before .if1 .left) (c .if2 .taken) (omega arith), refl, omega arith)
+returns-2 c =
+    let start = c .before .before .before in
+    let a = start .args in
+    (byte-kept _ (a .g) _ (a .g .at + 1) (start .pre .1 .0 .1) (c .before .if1 .left) (c .if2 .taken) (omega arith), refl, omega arith)
 
 returns-3 : tie.Need-returns-3
-returns-3 c = (byte-over (c .before .before .before .args .line .now) (c .before .before .before .args .g) (c .before .before .before .args .b) (c .before .before .before .args .g .at + 1) (c .before .before .before .pre .1 .0 .1) (c .before .if1 .left) (c .if2 .left) (omega arith), refl, c .before .before .before .pre .1 .0 .0)
+returns-3 c =
+    let start = c .before .before .before in
+    let a = start .args in
+    (byte-over _ (a .g) _ (a .g .at + 1) (start .pre .1 .0 .1) (c .before .if1 .left) (c .if2 .left) (omega arith), refl, start .pre .1 .0 .0)
 
 pub take-byte-spec : {M : Type 1} → statement M
 take-byte-spec =

@@ -17,13 +17,19 @@ enum-told : tie.Need-enum-told
 enum-told c = search needs
 
 returns : tie.Need-returns
-returns c = ap ended (sym (ap (found (c .before .before .before .before .args .line .now)) (c .enum-told .given .1)) ∙ c .before .before .number-at .ensures)
+returns c = ap ended (sym (ap (found _) (c .enum-told .given .1)) ∙ c .before .before .number-at .ensures)
 
 returns-2 : tie.Need-returns-2
-returns-2 c = not-last (c .before .before .before .before .before .before .args .line .now) (c .before .before .v .given .0 .0) (c .before .before .v .given .0 .1 .0) (c .if1 .taken) ∙ ap ended (sym (ap (found (c .before .before .before .before .before .before .args .line .now)) (c .before .before .v .given .1)) ∙ c .before .before .before .before .number-at .ensures)
+returns-2 c =
+    let after-v = c .before .before in
+    not-last _ (after-v .v .given .0 .0) (after-v .v .given .0 .1 .0) (c .if1 .taken)
+    ∙ ap ended (sym (ap (found _) (after-v .v .given .1)) ∙ after-v .before .before .number-at .ensures)
 
 returns-3 : tie.Need-returns-3
-returns-3 c = is-last (c .before .before .before .before .before .before .args .line .now) (c .before .before .v .given .0 .0) (c .before .before .v .given .0 .1 .0) (c .if1 .left) ∙ ap ended (sym (ap (found (c .before .before .before .before .before .before .args .line .now)) (c .before .before .v .given .1)) ∙ c .before .before .before .before .number-at .ensures)
+returns-3 c =
+    let after-v = c .before .before in
+    is-last _ (after-v .v .given .0 .0) (after-v .v .given .0 .1 .0) (c .if1 .left)
+    ∙ ap ended (sym (ap (found _) (after-v .v .given .1)) ∙ after-v .before .before .number-at .ensures)
 
 pub last-number-spec : {M : Type 1} → statement M
 last-number-spec =

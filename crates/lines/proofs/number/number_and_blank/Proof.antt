@@ -19,7 +19,7 @@ enum-told : tie.Need-enum-told
 enum-told c = search needs
 
 returns : tie.Need-returns
-returns c = ap parted (sym (ap (found (c .before .before .before .before .args .line .now)) (c .enum-told .given .1)) ∙ c .before .before .number-at .ensures)
+returns c = ap parted (sym (ap (found _) (c .enum-told .given .1)) ∙ c .before .before .number-at .ensures)
 
 shared-slice-read-if2 : tie.Need-shared-slice-read-if2
 shared-slice-read-if2 c = search needs
@@ -28,13 +28,24 @@ add-t11 : tie.Need-add-t11
 add-t11 c = search needs
 
 returns-2 : tie.Need-returns-2
-returns-2 c = behind-blank (c .before .before .before .before .before .before .before .before .args .line .now) (c .before .before .before .before .v .given .0 .0) (c .before .before .before .before .v .given .0 .1 .0) (c .before .before .if1 .taken) (c .if2 .taken) ∙ ap parted (sym (ap (found (c .before .before .before .before .before .before .before .before .args .line .now)) (c .before .before .before .before .v .given .1)) ∙ c .before .before .before .before .before .before .number-at .ensures)
+returns-2 c =
+    let after-v = c .before .before .before .before in
+    behind-blank _ (after-v .v .given .0 .0) (after-v .v .given .0 .1 .0) (c .before .before .if1 .taken) (c .if2 .taken)
+    ∙ ap parted (sym (ap (found _) (after-v .v .given .1)) ∙ after-v .before .before .number-at .ensures)
 
 returns-3 : tie.Need-returns-3
-returns-3 c = behind-other (c .before .before .before .before .before .before .before .before .args .line .now) (c .before .before .before .before .v .given .0 .0) (c .before .before .before .before .v .given .0 .1 .0) (c .before .before .if1 .taken) (ne-eqb (getD (c .before .before .before .before .before .before .before .before .args .line .now) (c .before .before .before .before .v .given .0 .1 .0) 0) blank (c .if2 .left)) ∙ ap parted (sym (ap (found (c .before .before .before .before .before .before .before .before .args .line .now)) (c .before .before .before .before .v .given .1)) ∙ c .before .before .before .before .before .before .number-at .ensures)
+returns-3 c =
+    let after-v = c .before .before .before .before in
+    let start = after-v .before .before .before .before in
+    behind-other _ (after-v .v .given .0 .0) (after-v .v .given .0 .1 .0) (c .before .before .if1 .taken)
+    (ne-eqb (getD (start .args .line .now) (after-v .v .given .0 .1 .0) 0) blank (c .if2 .left))
+    ∙ ap parted (sym (ap (found _) (after-v .v .given .1)) ∙ after-v .before .before .number-at .ensures)
 
 returns-4 : tie.Need-returns-4
-returns-4 c = behind-nothing (c .before .before .before .before .before .before .args .line .now) (c .before .before .v .given .0 .0) (c .before .before .v .given .0 .1 .0) (c .if1 .left) ∙ ap parted (sym (ap (found (c .before .before .before .before .before .before .args .line .now)) (c .before .before .v .given .1)) ∙ c .before .before .before .before .number-at .ensures)
+returns-4 c =
+    let after-v = c .before .before in
+    behind-nothing _ (after-v .v .given .0 .0) (after-v .v .given .0 .1 .0) (c .if1 .left)
+    ∙ ap parted (sym (ap (found _) (after-v .v .given .1)) ∙ after-v .before .before .number-at .ensures)
 
 pub number-and-blank-spec : {M : Type 1} → statement M
 number-and-blank-spec =

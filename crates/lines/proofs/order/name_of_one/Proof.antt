@@ -29,7 +29,9 @@ new-requires-2 c κs = search needs
 
 returns-2 : tie.Need-returns-2
 unfolding nameOfOne
-returns-2 c = rw (sym (c .before .before .before .before .before .starts .ensures) ∙ c .before .before .before .before .if1 .left, sym (c .before .before .starts2 .ensures) ∙ c .before .if2 .taken) (c .new2 .ensures)
+returns-2 c =
+    let else1 = c .before .before .before .before in
+    rw (sym (else1 .before .starts .ensures) ∙ else1 .if1 .left, sym (c .before .before .starts2 .ensures) ∙ c .before .if2 .taken) (c .new2 .ensures)
 
 slice-aggregate-starts-3 : tie.Need-slice-aggregate-starts-3
 slice-aggregate-starts-3 c = search needs
@@ -42,7 +44,14 @@ new-requires-3 c κs = search needs
 
 returns-3 : tie.Need-returns-3
 unfolding nameOfOne
-returns-3 c = rw (sym (c .before .before .before .before .before .before .before .before .starts .ensures) ∙ c .before .before .before .before .before .before .before .if1 .left, sym (c .before .before .before .before .before .starts2 .ensures) ∙ c .before .before .before .before .if2 .left, sym (c .before .before .starts3 .ensures) ∙ c .before .if3 .taken) (c .new3 .ensures)
+returns-3 c =
+    let else2 = c .before .before .before .before in
+    let else1 = else2 .before .before .before in
+    rw (
+      sym (else1 .before .starts .ensures) ∙ else1 .if1 .left,
+      sym (else2 .before .starts2 .ensures) ∙ else2 .if2 .left,
+      sym (c .before .before .starts3 .ensures) ∙ c .before .if3 .taken,
+    ) (c .new3 .ensures)
 
 slice-aggregate-starts-4 : tie.Need-slice-aggregate-starts-4
 slice-aggregate-starts-4 c = search needs
@@ -55,14 +64,32 @@ new-requires-4 c κs = search needs
 
 returns-4 : tie.Need-returns-4
 unfolding nameOfOne
-returns-4 c = rw (sym (c .before .before .before .before .before .before .before .before .before .before .before .starts .ensures) ∙ c .before .before .before .before .before .before .before .before .before .before .if1 .left, sym (c .before .before .before .before .before .before .before .before .starts2 .ensures) ∙ c .before .before .before .before .before .before .before .if2 .left, sym (c .before .before .before .before .before .starts3 .ensures) ∙ c .before .before .before .before .if3 .left, sym (c .before .before .starts4 .ensures) ∙ c .before .if4 .taken) (c .new4 .ensures)
+returns-4 c =
+    let else3 = c .before .before .before .before in
+    let else2 = else3 .before .before .before in
+    let else1 = else2 .before .before .before in
+    rw (
+      sym (else1 .before .starts .ensures) ∙ else1 .if1 .left,
+      sym (else2 .before .starts2 .ensures) ∙ else2 .if2 .left,
+      sym (else3 .before .starts3 .ensures) ∙ else3 .if3 .left,
+      sym (c .before .before .starts4 .ensures) ∙ c .before .if4 .taken,
+    ) (c .new4 .ensures)
 
 new-requires-5 : tie.Need-new-requires-5
 new-requires-5 c κs = search needs
 
 returns-5 : tie.Need-returns-5
 unfolding nameOfOne
-returns-5 c = rw (sym (c .before .before .before .before .before .before .before .before .before .before .before .starts .ensures) ∙ c .before .before .before .before .before .before .before .before .before .before .if1 .left, sym (c .before .before .before .before .before .before .before .before .starts2 .ensures) ∙ c .before .before .before .before .before .before .before .if2 .left, sym (c .before .before .before .before .before .starts3 .ensures) ∙ c .before .before .before .before .if3 .left, sym (c .before .before .starts4 .ensures) ∙ c .before .if4 .left) (c .new5 .ensures)
+returns-5 c =
+    let else3 = c .before .before .before .before in
+    let else2 = else3 .before .before .before in
+    let else1 = else2 .before .before .before in
+    rw (
+      sym (else1 .before .starts .ensures) ∙ else1 .if1 .left,
+      sym (else2 .before .starts2 .ensures) ∙ else2 .if2 .left,
+      sym (else3 .before .starts3 .ensures) ∙ else3 .if3 .left,
+      sym (c .before .before .starts4 .ensures) ∙ c .before .if4 .left,
+    ) (c .new5 .ensures)
 
 pub name-of-one-spec : {M : Type 1} → statement M
 name-of-one-spec =

@@ -29,7 +29,9 @@ new-requires-2 c κs = search needs
 
 returns-2 : tie.Need-returns-2
 unfolding nameOfTwo
-returns-2 c = rw (sym (c .before .before .before .before .before .starts .ensures) ∙ c .before .before .before .before .if1 .left, sym (c .before .before .starts2 .ensures) ∙ c .before .if2 .taken) (c .new2 .ensures)
+returns-2 c =
+    let else1 = c .before .before .before .before in
+    rw (sym (else1 .before .starts .ensures) ∙ else1 .if1 .left, sym (c .before .before .starts2 .ensures) ∙ c .before .if2 .taken) (c .new2 .ensures)
 
 slice-aggregate-starts-3 : tie.Need-slice-aggregate-starts-3
 slice-aggregate-starts-3 c = search needs
@@ -42,7 +44,14 @@ new-requires-3 c κs = search needs
 
 returns-3 : tie.Need-returns-3
 unfolding nameOfTwo
-returns-3 c = rw (sym (c .before .before .before .before .before .before .before .before .starts .ensures) ∙ c .before .before .before .before .before .before .before .if1 .left, sym (c .before .before .before .before .before .starts2 .ensures) ∙ c .before .before .before .before .if2 .left, sym (c .before .before .starts3 .ensures) ∙ c .before .if3 .taken) (c .new3 .ensures)
+returns-3 c =
+    let else2 = c .before .before .before .before in
+    let else1 = else2 .before .before .before in
+    rw (
+      sym (else1 .before .starts .ensures) ∙ else1 .if1 .left,
+      sym (else2 .before .starts2 .ensures) ∙ else2 .if2 .left,
+      sym (c .before .before .starts3 .ensures) ∙ c .before .if3 .taken,
+    ) (c .new3 .ensures)
 
 slice-aggregate-starts-4 : tie.Need-slice-aggregate-starts-4
 slice-aggregate-starts-4 c = search needs
@@ -55,7 +64,16 @@ new-requires-4 c κs = search needs
 
 returns-4 : tie.Need-returns-4
 unfolding nameOfTwo
-returns-4 c = rw (sym (c .before .before .before .before .before .before .before .before .before .before .before .starts .ensures) ∙ c .before .before .before .before .before .before .before .before .before .before .if1 .left, sym (c .before .before .before .before .before .before .before .before .starts2 .ensures) ∙ c .before .before .before .before .before .before .before .if2 .left, sym (c .before .before .before .before .before .starts3 .ensures) ∙ c .before .before .before .before .if3 .left, sym (c .before .before .starts4 .ensures) ∙ c .before .if4 .taken) (c .new4 .ensures)
+returns-4 c =
+    let else3 = c .before .before .before .before in
+    let else2 = else3 .before .before .before in
+    let else1 = else2 .before .before .before in
+    rw (
+      sym (else1 .before .starts .ensures) ∙ else1 .if1 .left,
+      sym (else2 .before .starts2 .ensures) ∙ else2 .if2 .left,
+      sym (else3 .before .starts3 .ensures) ∙ else3 .if3 .left,
+      sym (c .before .before .starts4 .ensures) ∙ c .before .if4 .taken,
+    ) (c .new4 .ensures)
 
 slice-aggregate-starts-5 : tie.Need-slice-aggregate-starts-5
 slice-aggregate-starts-5 c = search needs
@@ -68,7 +86,18 @@ new-requires-5 c κs = search needs
 
 returns-5 : tie.Need-returns-5
 unfolding nameOfTwo
-returns-5 c = rw (sym (c .before .before .before .before .before .before .before .before .before .before .before .before .before .before .starts .ensures) ∙ c .before .before .before .before .before .before .before .before .before .before .before .before .before .if1 .left, sym (c .before .before .before .before .before .before .before .before .before .before .before .starts2 .ensures) ∙ c .before .before .before .before .before .before .before .before .before .before .if2 .left, sym (c .before .before .before .before .before .before .before .before .starts3 .ensures) ∙ c .before .before .before .before .before .before .before .if3 .left, sym (c .before .before .before .before .before .starts4 .ensures) ∙ c .before .before .before .before .if4 .left, sym (c .before .before .starts5 .ensures) ∙ c .before .if5 .taken) (c .new5 .ensures)
+returns-5 c =
+    let else4 = c .before .before .before .before in
+    let else3 = else4 .before .before .before in
+    let else2 = else3 .before .before .before in
+    let else1 = else2 .before .before .before in
+    rw (
+      sym (else1 .before .starts .ensures) ∙ else1 .if1 .left,
+      sym (else2 .before .starts2 .ensures) ∙ else2 .if2 .left,
+      sym (else3 .before .starts3 .ensures) ∙ else3 .if3 .left,
+      sym (else4 .before .starts4 .ensures) ∙ else4 .if4 .left,
+      sym (c .before .before .starts5 .ensures) ∙ c .before .if5 .taken,
+    ) (c .new5 .ensures)
 
 slice-aggregate-starts-6 : tie.Need-slice-aggregate-starts-6
 slice-aggregate-starts-6 c = search needs
@@ -81,7 +110,20 @@ new-requires-6 c κs = search needs
 
 returns-6 : tie.Need-returns-6
 unfolding nameOfTwo
-returns-6 c = rw (sym (c .before .before .before .before .before .before .before .before .before .before .before .before .before .before .before .before .before .starts .ensures) ∙ c .before .before .before .before .before .before .before .before .before .before .before .before .before .before .before .before .if1 .left, sym (c .before .before .before .before .before .before .before .before .before .before .before .before .before .before .starts2 .ensures) ∙ c .before .before .before .before .before .before .before .before .before .before .before .before .before .if2 .left, sym (c .before .before .before .before .before .before .before .before .before .before .before .starts3 .ensures) ∙ c .before .before .before .before .before .before .before .before .before .before .if3 .left, sym (c .before .before .before .before .before .before .before .before .starts4 .ensures) ∙ c .before .before .before .before .before .before .before .if4 .left, sym (c .before .before .before .before .before .starts5 .ensures) ∙ c .before .before .before .before .if5 .left, sym (c .before .before .starts6 .ensures) ∙ c .before .if6 .taken) (c .new6 .ensures)
+returns-6 c =
+    let else5 = c .before .before .before .before in
+    let else4 = else5 .before .before .before in
+    let else3 = else4 .before .before .before in
+    let else2 = else3 .before .before .before in
+    let else1 = else2 .before .before .before in
+    rw (
+      sym (else1 .before .starts .ensures) ∙ else1 .if1 .left,
+      sym (else2 .before .starts2 .ensures) ∙ else2 .if2 .left,
+      sym (else3 .before .starts3 .ensures) ∙ else3 .if3 .left,
+      sym (else4 .before .starts4 .ensures) ∙ else4 .if4 .left,
+      sym (else5 .before .starts5 .ensures) ∙ else5 .if5 .left,
+      sym (c .before .before .starts6 .ensures) ∙ c .before .if6 .taken,
+    ) (c .new6 .ensures)
 
 slice-aggregate-starts-7 : tie.Need-slice-aggregate-starts-7
 slice-aggregate-starts-7 c = search needs
@@ -94,14 +136,44 @@ new-requires-7 c κs = search needs
 
 returns-7 : tie.Need-returns-7
 unfolding nameOfTwo
-returns-7 c = rw (sym (c .before .before .before .before .before .before .before .before .before .before .before .before .before .before .before .before .before .before .before .before .starts .ensures) ∙ c .before .before .before .before .before .before .before .before .before .before .before .before .before .before .before .before .before .before .before .if1 .left, sym (c .before .before .before .before .before .before .before .before .before .before .before .before .before .before .before .before .before .starts2 .ensures) ∙ c .before .before .before .before .before .before .before .before .before .before .before .before .before .before .before .before .if2 .left, sym (c .before .before .before .before .before .before .before .before .before .before .before .before .before .before .starts3 .ensures) ∙ c .before .before .before .before .before .before .before .before .before .before .before .before .before .if3 .left, sym (c .before .before .before .before .before .before .before .before .before .before .before .starts4 .ensures) ∙ c .before .before .before .before .before .before .before .before .before .before .if4 .left, sym (c .before .before .before .before .before .before .before .before .starts5 .ensures) ∙ c .before .before .before .before .before .before .before .if5 .left, sym (c .before .before .before .before .before .starts6 .ensures) ∙ c .before .before .before .before .if6 .left, sym (c .before .before .starts7 .ensures) ∙ c .before .if7 .taken) (c .new7 .ensures)
+returns-7 c =
+    let else6 = c .before .before .before .before in
+    let else5 = else6 .before .before .before in
+    let else4 = else5 .before .before .before in
+    let else3 = else4 .before .before .before in
+    let else2 = else3 .before .before .before in
+    let else1 = else2 .before .before .before in
+    rw (
+      sym (else1 .before .starts .ensures) ∙ else1 .if1 .left,
+      sym (else2 .before .starts2 .ensures) ∙ else2 .if2 .left,
+      sym (else3 .before .starts3 .ensures) ∙ else3 .if3 .left,
+      sym (else4 .before .starts4 .ensures) ∙ else4 .if4 .left,
+      sym (else5 .before .starts5 .ensures) ∙ else5 .if5 .left,
+      sym (else6 .before .starts6 .ensures) ∙ else6 .if6 .left,
+      sym (c .before .before .starts7 .ensures) ∙ c .before .if7 .taken,
+    ) (c .new7 .ensures)
 
 new-requires-8 : tie.Need-new-requires-8
 new-requires-8 c κs = search needs
 
 returns-8 : tie.Need-returns-8
 unfolding nameOfTwo
-returns-8 c = rw (sym (c .before .before .before .before .before .before .before .before .before .before .before .before .before .before .before .before .before .before .before .before .starts .ensures) ∙ c .before .before .before .before .before .before .before .before .before .before .before .before .before .before .before .before .before .before .before .if1 .left, sym (c .before .before .before .before .before .before .before .before .before .before .before .before .before .before .before .before .before .starts2 .ensures) ∙ c .before .before .before .before .before .before .before .before .before .before .before .before .before .before .before .before .if2 .left, sym (c .before .before .before .before .before .before .before .before .before .before .before .before .before .before .starts3 .ensures) ∙ c .before .before .before .before .before .before .before .before .before .before .before .before .before .if3 .left, sym (c .before .before .before .before .before .before .before .before .before .before .before .starts4 .ensures) ∙ c .before .before .before .before .before .before .before .before .before .before .if4 .left, sym (c .before .before .before .before .before .before .before .before .starts5 .ensures) ∙ c .before .before .before .before .before .before .before .if5 .left, sym (c .before .before .before .before .before .starts6 .ensures) ∙ c .before .before .before .before .if6 .left, sym (c .before .before .starts7 .ensures) ∙ c .before .if7 .left) (c .new8 .ensures)
+returns-8 c =
+    let else6 = c .before .before .before .before in
+    let else5 = else6 .before .before .before in
+    let else4 = else5 .before .before .before in
+    let else3 = else4 .before .before .before in
+    let else2 = else3 .before .before .before in
+    let else1 = else2 .before .before .before in
+    rw (
+      sym (else1 .before .starts .ensures) ∙ else1 .if1 .left,
+      sym (else2 .before .starts2 .ensures) ∙ else2 .if2 .left,
+      sym (else3 .before .starts3 .ensures) ∙ else3 .if3 .left,
+      sym (else4 .before .starts4 .ensures) ∙ else4 .if4 .left,
+      sym (else5 .before .starts5 .ensures) ∙ else5 .if5 .left,
+      sym (else6 .before .starts6 .ensures) ∙ else6 .if6 .left,
+      sym (c .before .before .starts7 .ensures) ∙ c .before .if7 .left,
+    ) (c .new8 .ensures)
 
 pub name-of-two-spec : {M : Type 1} → statement M
 name-of-two-spec =

@@ -16,10 +16,10 @@ enum-told : tie.Need-enum-told
 enum-told c = search needs
 
 returns : tie.Need-returns
-returns c = ap (withOne (c .before .before .before .before .args .code)) (sym (ap (found (c .before .before .before .before .args .line .now)) (c .enum-told .given .1)) ∙ c .before .before .last-number .ensures)
+returns c = ap (withOne _) (sym (ap (found _) (c .enum-told .given .1)) ∙ c .before .before .last-number .ensures)
 
 returns-2 : tie.Need-returns-2
-returns-2 c = ap (withOne (c .before .before .before .before .before .args .code)) (sym (ap (found (c .before .before .before .before .before .args .line .now)) (c .before .a .given .1)) ∙ c .before .before .before .last-number .ensures)
+returns-2 c = ap (withOne _) (sym (ap (found _) (c .before .a .given .1)) ∙ c .before .before .before .last-number .ensures)
 
 pub one-spec : {M : Type 1} → statement M
 one-spec = tie.close (tie.spec last-number-requires enum-known-a enum-told returns returns-2)

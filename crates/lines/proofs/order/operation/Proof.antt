@@ -12,7 +12,7 @@ two-requires : tie.Need-two-requires
 two-requires c κs = search needs
 
 returns : tie.Need-returns
-returns c = c .two .ensures ∙ is-two (c .before .before .before .before .before .args .line .now) (c .before .before .before .name-of-two .result) (c .before .before .before .name-of-two .ensures) (c .before .if1 .taken)
+returns c = c .two .ensures ∙ is-two _ _ (c .before .before .before .name-of-two .ensures) (c .before .if1 .taken)
 
 name-of-one-requires : tie.Need-name-of-one-requires
 name-of-one-requires c κs = search needs
@@ -21,10 +21,15 @@ one-requires : tie.Need-one-requires
 one-requires c κs = search needs
 
 returns-2 : tie.Need-returns-2
-returns-2 c = c .one .ensures ∙ is-one (c .before .before .before .before .before .before .before .before .args .line .now) (c .before .before .before .before .before .before .name-of-two .result) (c .before .before .before .name-of-one .result) (c .before .before .before .before .before .before .name-of-two .ensures) (c .before .before .before .name-of-one .ensures) (c .before .before .before .before .if1 .left) (c .before .if2 .taken)
+returns-2 c =
+    let else1 = c .before .before .before .before in
+    c .one .ensures
+    ∙ is-one _ _ _ (else1 .before .before .name-of-two .ensures) (c .before .before .before .name-of-one .ensures) (else1 .if1 .left) (c .before .if2 .taken)
 
 returns-3 : tie.Need-returns-3
-returns-3 c = is-none (c .before .before .before .before .before .before .before .args .line .now) (c .before .before .before .before .before .name-of-two .result) (c .before .before .name-of-one .result) (c .before .before .before .before .before .name-of-two .ensures) (c .before .before .name-of-one .ensures) (c .before .before .before .if1 .left) (c .if2 .left)
+returns-3 c =
+    let else1 = c .before .before .before in
+    is-none _ _ _ (else1 .before .before .name-of-two .ensures) (c .before .before .name-of-one .ensures) (else1 .if1 .left) (c .if2 .left)
 
 pub operation-spec : {M : Type 1} → statement M
 operation-spec =

@@ -29,7 +29,9 @@ reading-requires c κs = search needs
 
 returns-2 : tie.Need-returns-2
 unfolding command
-returns-2 c = rw (sym (c .before .before .before .before .before .starts .ensures) ∙ c .before .before .before .before .if1 .left, sym (c .before .before .starts2 .ensures) ∙ c .before .if2 .taken) (c .reading .ensures)
+returns-2 c =
+    let else1 = c .before .before .before .before in
+    rw (sym (else1 .before .starts .ensures) ∙ else1 .if1 .left, sym (c .before .before .starts2 .ensures) ∙ c .before .if2 .taken) (c .reading .ensures)
 
 slice-aggregate-starts-3 : tie.Need-slice-aggregate-starts-3
 slice-aggregate-starts-3 c = search needs
@@ -42,14 +44,28 @@ writing-requires c κs = search needs
 
 returns-3 : tie.Need-returns-3
 unfolding command
-returns-3 c = rw (sym (c .before .before .before .before .before .before .before .before .starts .ensures) ∙ c .before .before .before .before .before .before .before .if1 .left, sym (c .before .before .before .before .before .starts2 .ensures) ∙ c .before .before .before .before .if2 .left, sym (c .before .before .starts3 .ensures) ∙ c .before .if3 .taken) (c .writing .ensures)
+returns-3 c =
+    let else2 = c .before .before .before .before in
+    let else1 = else2 .before .before .before in
+    rw (
+      sym (else1 .before .starts .ensures) ∙ else1 .if1 .left,
+      sym (else2 .before .starts2 .ensures) ∙ else2 .if2 .left,
+      sym (c .before .before .starts3 .ensures) ∙ c .before .if3 .taken,
+    ) (c .writing .ensures)
 
 operation-requires : tie.Need-operation-requires
 operation-requires c κs = search needs
 
 returns-4 : tie.Need-returns-4
 unfolding command
-returns-4 c = rw (sym (c .before .before .before .before .before .before .before .before .starts .ensures) ∙ c .before .before .before .before .before .before .before .if1 .left, sym (c .before .before .before .before .before .starts2 .ensures) ∙ c .before .before .before .before .if2 .left, sym (c .before .before .starts3 .ensures) ∙ c .before .if3 .left) (c .operation .ensures)
+returns-4 c =
+    let else2 = c .before .before .before .before in
+    let else1 = else2 .before .before .before in
+    rw (
+      sym (else1 .before .starts .ensures) ∙ else1 .if1 .left,
+      sym (else2 .before .starts2 .ensures) ∙ else2 .if2 .left,
+      sym (c .before .before .starts3 .ensures) ∙ c .before .if3 .left,
+    ) (c .operation .ensures)
 
 pub parse-spec : {M : Type 1} → statement M
 parse-spec =

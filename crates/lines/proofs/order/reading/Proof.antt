@@ -17,13 +17,19 @@ enum-told : tie.Need-enum-told
 enum-told c = search needs
 
 returns : tie.Need-returns
-returns c = ap readingIn (sym (ap (found (c .before .before .before .before .args .line .now)) (c .enum-told .given .1)) ∙ c .before .before .number-and-blank .ensures)
+returns c = ap readingIn (sym (ap (found _) (c .enum-told .given .1)) ∙ c .before .before .number-and-blank .ensures)
 
 returns-2 : tie.Need-returns-2
-returns-2 c = with-text (c .before .before .before .before .before .before .args .line .now) (c .before .before .h .given .0 .0) (c .before .before .h .given .0 .1 .0) (c .if1 .taken) ∙ ap readingIn (sym (ap (found (c .before .before .before .before .before .before .args .line .now)) (c .before .before .h .given .1)) ∙ c .before .before .before .before .number-and-blank .ensures)
+returns-2 c =
+    let after-h = c .before .before in
+    with-text _ (after-h .h .given .0 .0) (after-h .h .given .0 .1 .0) (c .if1 .taken)
+    ∙ ap readingIn (sym (ap (found _) (after-h .h .given .1)) ∙ after-h .before .before .number-and-blank .ensures)
 
 returns-3 : tie.Need-returns-3
-returns-3 c = no-text (c .before .before .before .before .before .before .args .line .now) (c .before .before .h .given .0 .0) (c .before .before .h .given .0 .1 .0) (c .if1 .left) ∙ ap readingIn (sym (ap (found (c .before .before .before .before .before .before .args .line .now)) (c .before .before .h .given .1)) ∙ c .before .before .before .before .number-and-blank .ensures)
+returns-3 c =
+    let after-h = c .before .before in
+    no-text _ (after-h .h .given .0 .0) (after-h .h .given .0 .1 .0) (c .if1 .left)
+    ∙ ap readingIn (sym (ap (found _) (after-h .h .given .1)) ∙ after-h .before .before .number-and-blank .ensures)
 
 pub reading-spec : {M : Type 1} → statement M
 reading-spec =

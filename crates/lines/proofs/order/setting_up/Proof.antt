@@ -16,10 +16,10 @@ enum-told : tie.Need-enum-told
 enum-told c = search needs
 
 returns : tie.Need-returns
-returns c = ap newIn (sym (ap (found (c .before .before .before .before .args .line .now)) (c .enum-told .given .1)) ∙ c .before .before .last-number .ensures)
+returns c = ap newIn (sym (ap (found _) (c .enum-told .given .1)) ∙ c .before .before .last-number .ensures)
 
 returns-2 : tie.Need-returns-2
-returns-2 c = ap newIn (sym (ap (found (c .before .before .before .before .before .args .line .now)) (c .before .n .given .1)) ∙ c .before .before .before .last-number .ensures)
+returns-2 c = ap newIn (sym (ap (found _) (c .before .n .given .1)) ∙ c .before .before .before .last-number .ensures)
 
 pub setting-up-spec : {M : Type 1} → statement M
 setting-up-spec =

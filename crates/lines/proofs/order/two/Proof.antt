@@ -17,7 +17,7 @@ enum-told : tie.Need-enum-told
 enum-told c = search needs
 
 returns : tie.Need-returns
-returns c = ap (withTwo (c .before .before .before .before .args .code)) (sym (ap (found (c .before .before .before .before .args .line .now)) (c .enum-told .given .1)) ∙ c .before .before .number-and-blank .ensures)
+returns c = ap (withTwo _) (sym (ap (found _) (c .enum-told .given .1)) ∙ c .before .before .number-and-blank .ensures)
 
 last-number-requires : tie.Need-last-number-requires
 last-number-requires c κs = search needs
@@ -29,13 +29,26 @@ enum-told-2 : tie.Need-enum-told-2
 enum-told-2 c = search needs
 
 returns-2 : tie.Need-returns-2
-returns-2 c = ap (withSecond (c .before .before .before .before .before .before .before .before .args .code) (c .before .before .before .before .a .given .0 .0)) (sym (ap (found (c .before .before .before .before .before .before .before .before .args .line .now)) (c .enum-told2 .given .1)) ∙ c .before .before .last-number .ensures) ∙ ap (withTwo (c .before .before .before .before .before .before .before .before .args .code)) (sym (ap (found (c .before .before .before .before .before .before .before .before .args .line .now)) (c .before .before .before .before .a .given .1)) ∙ c .before .before .before .before .before .before .number-and-blank .ensures)
+returns-2 c =
+    let after-a = c .before .before .before .before in
+    ap (withSecond _ (after-a .a .given .0 .0)) (sym (ap (found _) (c .enum-told2 .given .1)) ∙ c .before .before .last-number .ensures)
+    ∙ ap (withTwo _) (sym (ap (found _) (after-a .a .given .1)) ∙ after-a .before .before .number-and-blank .ensures)
 
 returns-3 : tie.Need-returns-3
-returns-3 c = second-pfa (c .before .before .before .before .before .before .before .before .before .before .args .code) (c .before .before .before .before .before .before .a .given .0 .0) (c .before .before .x .given .0 .0) (c .if1 .taken) ∙ ap (withSecond (c .before .before .before .before .before .before .before .before .before .before .args .code) (c .before .before .before .before .before .before .a .given .0 .0)) (sym (ap (found (c .before .before .before .before .before .before .before .before .before .before .args .line .now)) (c .before .before .x .given .1)) ∙ c .before .before .before .before .last-number .ensures) ∙ ap (withTwo (c .before .before .before .before .before .before .before .before .before .before .args .code)) (sym (ap (found (c .before .before .before .before .before .before .before .before .before .before .args .line .now)) (c .before .before .before .before .before .before .a .given .1)) ∙ c .before .before .before .before .before .before .before .before .number-and-blank .ensures)
+returns-3 c =
+    let after-x = c .before .before in
+    let after-a = after-x .before .before .before .before in
+    second-pfa _ (after-a .a .given .0 .0) (after-x .x .given .0 .0) (c .if1 .taken)
+    ∙ ap (withSecond _ (after-a .a .given .0 .0)) (sym (ap (found _) (after-x .x .given .1)) ∙ after-x .before .before .last-number .ensures)
+    ∙ ap (withTwo _) (sym (ap (found _) (after-a .a .given .1)) ∙ after-a .before .before .number-and-blank .ensures)
 
 returns-4 : tie.Need-returns-4
-returns-4 c = second-other (c .before .before .before .before .before .before .before .before .before .before .args .code) (c .before .before .before .before .before .before .a .given .0 .0) (c .before .before .x .given .0 .0) (c .if1 .left) ∙ ap (withSecond (c .before .before .before .before .before .before .before .before .before .before .args .code) (c .before .before .before .before .before .before .a .given .0 .0)) (sym (ap (found (c .before .before .before .before .before .before .before .before .before .before .args .line .now)) (c .before .before .x .given .1)) ∙ c .before .before .before .before .last-number .ensures) ∙ ap (withTwo (c .before .before .before .before .before .before .before .before .before .before .args .code)) (sym (ap (found (c .before .before .before .before .before .before .before .before .before .before .args .line .now)) (c .before .before .before .before .before .before .a .given .1)) ∙ c .before .before .before .before .before .before .before .before .number-and-blank .ensures)
+returns-4 c =
+    let after-x = c .before .before in
+    let after-a = after-x .before .before .before .before in
+    second-other _ (after-a .a .given .0 .0) (after-x .x .given .0 .0) (c .if1 .left)
+    ∙ ap (withSecond _ (after-a .a .given .0 .0)) (sym (ap (found _) (after-x .x .given .1)) ∙ after-x .before .before .last-number .ensures)
+    ∙ ap (withTwo _) (sym (ap (found _) (after-a .a .given .1)) ∙ after-a .before .before .number-and-blank .ensures)
 
 pub two-spec : {M : Type 1} → statement M
 two-spec =

@@ -16,10 +16,10 @@ enum-told : tie.Need-enum-told
 enum-told c = search needs
 
 returns : tie.Need-returns
-returns c = ap writingIn (sym (ap (found (c .before .before .before .before .args .line .now)) (c .enum-told .given .1)) ∙ c .before .before .last-number .ensures)
+returns c = ap writingIn (sym (ap (found _) (c .enum-told .given .1)) ∙ c .before .before .last-number .ensures)
 
 returns-2 : tie.Need-returns-2
-returns-2 c = ap writingIn (sym (ap (found (c .before .before .before .before .before .args .line .now)) (c .before .h .given .1)) ∙ c .before .before .before .last-number .ensures)
+returns-2 c = ap writingIn (sym (ap (found _) (c .before .h .given .1)) ∙ c .before .before .before .last-number .ensures)
 
 pub writing-spec : {M : Type 1} → statement M
 writing-spec = tie.close (tie.spec last-number-requires enum-known-h enum-told returns returns-2)

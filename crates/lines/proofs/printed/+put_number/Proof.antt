@@ -1,7 +1,6 @@
 -- `lines::printed::put_number` meets its contract; the number falls at each call.
 use borrow.Author.Needs.{needs}
 use native.Mathlib.Omega.{arith}
-use mathlib.Core.Path.{_∙_}
 use mathlib.Core.List.{[], _∷_}
 use Prim.Native.Nat.{_+_, _/_, _%_, ℕ, _<_}
 use borrow.Fn.Kinds.{In}
@@ -19,12 +18,10 @@ abbrev μ-put-number : Measures 1 put-number-kinds.ps ℕ
 μ-put-number κs a = a .1 .1 .0
 
 abbrev put-number-at : ℕ → In 1 put-number-kinds.ps
-put-number-at t =
-    and 1 put-number-kinds.ps (is 1 put-number-kinds.ps μ-put-number t) put-number.Pre
+put-number-at t = and 1 put-number-kinds.ps (is 1 put-number-kinds.ps μ-put-number t) put-number.Pre
 
 abbrev put-number-below : ℕ → In 1 put-number-kinds.ps
-put-number-below t =
-    and 1 put-number-kinds.ps (falls 1 put-number-kinds.ps _<_ μ-put-number t) put-number.Pre
+put-number-below t = and 1 put-number-kinds.ps (falls 1 put-number-kinds.ps _<_ μ-put-number t) put-number.Pre
 
 put-number-add-put : (t : ℕ) → put-number-lts.Need-add-put (
   put-reads.Asked,
@@ -56,7 +53,7 @@ put-number-same-length : (t : ℕ) → put-number-lts.Need-same-length (
   put-number-below t,
   put-number.Post,
 ) (put-number-at t) put-number.Post
-put-number-same-length t c = c .before .before .put .kept .0
+put-number-same-length t c = search needs
 
 put-number-returns : (t : ℕ) → put-number-lts.Need-returns (
   put-reads.Asked,
@@ -64,7 +61,9 @@ put-number-returns : (t : ℕ) → put-number-lts.Need-returns (
   put-number-below t,
   put-number.Post,
 ) (put-number-at t) put-number.Post
-put-number-returns t c = rw (one-digit (c .before .before .before .before .before .before .args .v) (c .before .before .before .before .if1 .taken)) (c .before .before .put .ensures)
+put-number-returns t c =
+    let after-put = c .before .before in
+    rw (one-digit _ (after-put .before .before .if1 .taken)) (after-put .put .ensures)
 
 put-number-put-number-requires : (t : ℕ) → put-number-lts.Need-put-number-requires (
   put-reads.Asked,
@@ -72,7 +71,7 @@ put-number-put-number-requires : (t : ℕ) → put-number-lts.Need-put-number-re
   put-number-below t,
   put-number.Post,
 ) (put-number-at t) put-number.Post
-put-number-put-number-requires t c κs = (omega (arith, c .before .before .before .pre .0), omega (arith, c .before .before .before .pre .1))
+put-number-put-number-requires t c κs = search needs
 
 put-number-add-put-2 : (t : ℕ) → put-number-lts.Need-add-put-2 (
   put-reads.Asked,
@@ -96,7 +95,9 @@ put-number-put-requires-2 : (t : ℕ) → put-number-lts.Need-put-requires-2 (
   put-number-below t,
   put-number.Post,
 ) (put-number-at t) put-number.Post
-put-number-put-requires-2 t c κs = omega (arith, c .before .before .before .put-number .kept .0, c .before .before .before .put-number .ensures .place, c .before .before .before .before .before .before .before .pre .1, first-digits (c .before .before .before .before .before .before .before .args .v) (c .before .before .before .before .before .if1 .left) (omega arith))
+put-number-put-requires-2 t c κs =
+    let else1 = c .before .before .before .before .before in
+    omega (arith, first-digits _ (else1 .if1 .left) (omega arith))
 
 put-number-same-length-2 : (t : ℕ) → put-number-lts.Need-same-length-2 (
   put-reads.Asked,
@@ -104,7 +105,7 @@ put-number-same-length-2 : (t : ℕ) → put-number-lts.Need-same-length-2 (
   put-number-below t,
   put-number.Post,
 ) (put-number-at t) put-number.Post
-put-number-same-length-2 t c = c .before .before .put2 .kept .0 ∙ c .before .before .before .before .before .before .put-number .kept .0
+put-number-same-length-2 t c = search needs
 
 put-number-returns-2 : (t : ℕ) → put-number-lts.Need-returns-2 (
   put-reads.Asked,
@@ -112,7 +113,12 @@ put-number-returns-2 : (t : ℕ) → put-number-lts.Need-returns-2 (
   put-number-below t,
   put-number.Post,
 ) (put-number-at t) put-number.Post
-put-number-returns-2 t c = rw (more-digits (c .before .before .before .before .before .before .before .before .before .before .args .v) (c .before .before .before .before .before .before .before .before .if1 .left) (omega arith)) (puts-then (decimal (c .before .before .before .before .before .before .before .before .before .before .args .v / 10)) ((48 + c .before .before .before .before .before .before .before .before .before .before .args .v % 10) ∷ []) (c .before .before .before .before .before .before .put-number .ensures) (c .before .before .put2 .ensures))
+put-number-returns-2 t c =
+    let after-put-number = c .before .before .before .before .before .before in
+    let else1 = after-put-number .before .before in
+    let start = else1 .before .before in
+    rw (more-digits _ (else1 .if1 .left) (omega arith))
+    (puts-then (decimal (start .args .v / 10)) ((48 + start .args .v % 10) ∷ []) (after-put-number .put-number .ensures) (c .before .before .put2 .ensures))
 
 pub +put-number-spec : {M : Type 1} → statement M
 +put-number-spec = close μ-put-number λ t. put-number-lts.spec (

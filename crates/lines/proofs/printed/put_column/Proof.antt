@@ -12,13 +12,18 @@ put-number-requires : tie.Need-put-number-requires
 put-number-requires c κs = search needs
 
 put-requires : tie.Need-put-requires
-put-requires c κs = omega (arith, c .before .before .before .put-number .kept .0, c .before .before .before .put-number .ensures .place, c .before .before .before .before .before .before .pre, decimal-short digitsMost (c .before .before .before .before .before .before .args .v))
+put-requires c κs =
+    let start = c .before .before .before .before .before .before in
+    omega (arith, decimal-short digitsMost (start .args .v))
 
 same-length : tie.Need-same-length
 same-length c = search needs
 
 returns : tie.Need-returns
-returns c = puts-then (decimal (c .before .before .before .before .before .before .before .before .before .args .v)) (c .before .before .before .before .before .before .before .before .before .args .b ∷ []) (c .before .before .before .before .before .before .put-number .ensures) (c .before .before .put .ensures)
+returns c =
+    let after-put-number = c .before .before .before .before .before .before in
+    let start = after-put-number .before .before .before in
+    puts-then (decimal (start .args .v)) (start .args .b ∷ []) (after-put-number .put-number .ensures) (c .before .before .put .ensures)
 
 pub put-column-spec : {M : Type 1} → statement M
 put-column-spec = tie.close (tie.spec put-number-requires put-requires same-length returns)

@@ -15,7 +15,9 @@ same-length : tie.Need-same-length
 same-length c = search needs
 
 returns : tie.Need-returns
-returns c = puts-then (63 ∷ []) (10 ∷ []) (c .before .before .before .before .before .before .put .ensures) (c .before .before .put2 .ensures)
+returns c =
+    let after-put = c .before .before .before .before .before .before in
+    puts-then (63 ∷ []) (10 ∷ []) (after-put .put .ensures) (c .before .before .put2 .ensures)
 
 pub put-question-spec : {M : Type 1} → statement M
 put-question-spec = tie.close (tie.spec put-requires put-requires-2 same-length returns)

@@ -12,19 +12,32 @@ put-column-requires : tie.Need-put-column-requires
 put-column-requires c κs = search needs
 
 put-column-requires-2 : tie.Need-put-column-requires-2
-put-column-requires-2 c κs = omega (arith, c .before .before .before .put-column .kept .0, c .before .before .before .put-column .ensures .place, column-short (c .before .before .before .before .before .before .args .answer) blank, c .before .before .before .before .before .before .pre)
+put-column-requires-2 c κs =
+    let start = c .before .before .before .before .before .before in
+    omega (arith, column-short (start .args .answer) blank)
 
 put-column-requires-3 : tie.Need-put-column-requires-3
-put-column-requires-3 c κs = omega (arith, c .before .before .before .before .before .before .before .put-column .kept .0, c .before .before .before .before .before .before .before .put-column .ensures .place, column-short (c .before .before .before .before .before .before .before .before .before .before .args .answer) blank, c .before .before .before .put-column2 .kept .0, c .before .before .before .put-column2 .ensures .place, column-short (c .before .before .before .before .before .before .before .before .before .before .args .kind) blank, c .before .before .before .before .before .before .before .before .before .before .pre)
+put-column-requires-3 c κs =
+    let start = c .before .before .before .before .before .before .before .before .before .before in
+    omega (arith, column-short (start .args .answer) blank, column-short (start .args .kind) blank)
 
 put-column-requires-4 : tie.Need-put-column-requires-4
-put-column-requires-4 c κs = omega (arith, c .before .before .before .before .before .before .before .before .before .before .before .put-column .kept .0, c .before .before .before .before .before .before .before .before .before .before .before .put-column .ensures .place, column-short (c .before .before .before .before .before .before .before .before .before .before .before .before .before .before .args .answer) blank, c .before .before .before .before .before .before .before .put-column2 .kept .0, c .before .before .before .before .before .before .before .put-column2 .ensures .place, column-short (c .before .before .before .before .before .before .before .before .before .before .before .before .before .before .args .kind) blank, c .before .before .before .put-column3 .kept .0, c .before .before .before .put-column3 .ensures .place, column-short (c .before .before .before .before .before .before .before .before .before .before .before .before .before .before .args .value) blank, c .before .before .before .before .before .before .before .before .before .before .before .before .before .before .pre)
+put-column-requires-4 c κs =
+    let start = c .before .before .before .before .before .before .before .before .before .before .before .before .before .before in
+    omega (arith, column-short (start .args .answer) blank, column-short (start .args .kind) blank, column-short (start .args .value) blank)
 
 same-length : tie.Need-same-length
 same-length c = search needs
 
 returns : tie.Need-returns
-returns c = puts-then (column (c .before .before .before .before .before .before .before .before .before .before .before .before .before .before .before .before .before .args .answer) blank) (column (c .before .before .before .before .before .before .before .before .before .before .before .before .before .before .before .before .before .args .kind) blank ++ (column (c .before .before .before .before .before .before .before .before .before .before .before .before .before .before .before .before .before .args .value) blank ++ column (c .before .before .before .before .before .before .before .before .before .before .before .before .before .before .before .before .before .args .free) lineFeed)) (c .before .before .before .before .before .before .before .before .before .before .before .before .before .before .put-column .ensures) (puts-then (column (c .before .before .before .before .before .before .before .before .before .before .before .before .before .before .before .before .before .args .kind) blank) (column (c .before .before .before .before .before .before .before .before .before .before .before .before .before .before .before .before .before .args .value) blank ++ column (c .before .before .before .before .before .before .before .before .before .before .before .before .before .before .before .before .before .args .free) lineFeed) (c .before .before .before .before .before .before .before .before .before .before .put-column2 .ensures) (puts-then (column (c .before .before .before .before .before .before .before .before .before .before .before .before .before .before .before .before .before .args .value) blank) (column (c .before .before .before .before .before .before .before .before .before .before .before .before .before .before .before .before .before .args .free) lineFeed) (c .before .before .before .before .before .before .put-column3 .ensures) (c .before .before .put-column4 .ensures)))
+returns c =
+    let after-put-column3 = c .before .before .before .before .before .before in
+    let after-put-column2 = after-put-column3 .before .before .before .before in
+    let a = after-put-column2 .before .before .before .before .before .before .before .args in
+    puts-then (column (a .answer) blank) (column (a .kind) blank ++ (column (a .value) blank ++ column (a .free) lineFeed))
+    (after-put-column2 .before .before .before .before .put-column .ensures)
+    (puts-then (column (a .kind) blank) (column (a .value) blank ++ column (a .free) lineFeed) (after-put-column2 .put-column2 .ensures)
+    (puts-then (column (a .value) blank) (column (a .free) lineFeed) (after-put-column3 .put-column3 .ensures) (c .before .before .put-column4 .ensures)))
 
 pub put-reply-spec : {M : Type 1} → statement M
 put-reply-spec =

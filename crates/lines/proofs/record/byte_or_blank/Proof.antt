@@ -11,7 +11,7 @@ shared-slice-read-result : tie.Need-shared-slice-read-result
 shared-slice-read-result c = search needs
 
 returns : tie.Need-returns
-returns c = in-range (c .before .before .args .line .now) (c .before .before .args .i) 0 blank (c .before .if1 .taken)
+returns c = in-range (c .before .before .args .line .now) _ 0 blank (c .before .if1 .taken)
 
 returns-2 : tie.Need-returns-2
 returns-2 c = sym (List·getD-eq-default (c .before .args .line .now) blank (c .if1 .left))

@@ -14,7 +14,7 @@ mul-result : tie.Need-mul-result
 mul-result c = search needs
 
 returns : tie.Need-returns
-returns c = record-end (c .args .n) (c .pre)
+returns c = record-end _ (c .pre)
 
 pub record-end-spec : {M : Type 1} → statement M
 record-end-spec = tie.close (tie.spec add-result sub-result mul-result returns)

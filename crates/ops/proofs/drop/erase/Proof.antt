@@ -19,10 +19,16 @@ erase-requires c κs = search needs
 
 cast-t7 : tie.Need-cast-t7
 cast-t7 c =
-    let c0 = c .before .before .before .before .before in
-    let a = c0 .args in
+    let start = c .before .before .before .before .before in
+    let a = start .args in
     let p : Pool = view (a .s) (a .t .now) in
-    omega (arith, c .before .before .erase .ensures .0, freed-few p (a .a) (c0 .pre .1 .1) (omega (arith, c0 .pre .0 .held, c0 .pre .1 .0)), c0 .pre .0 .measured, c0 .pre .0 .few)
+    omega (
+      arith,
+      c .before .before .erase .ensures .0,
+      freed-few p (a .a) (start .pre .1 .1) (omega (arith, start .pre .0 .held, start .pre .1 .0)),
+      start .pre .0 .measured,
+      start .pre .0 .few,
+    )
 
 same-length : tie.Need-same-length
 same-length c = search needs
@@ -30,11 +36,12 @@ same-length c = search needs
 returns : tie.Need-returns
 unfolding effect
 returns c = λ b v.
-    let c0 = c .before .before .before .before .before in
-    let a = c0 .args in
+    let start = c .before .before .before .before .before in
+    let a = start .args in
     let p : Pool = view (a .s) (a .t .now) in
     let o : Operation = operation ERASE (a .a) b v in
-    does p o (is-done p o (one (c0 .pre .0) o refl (c0 .pre .1 .0) refl) refl refl refl (none-needed (frees (p .cells)))) (c .before .before .erase .ensures .1) (ap (Done 2) (c .before .before .erase .ensures .0))
+    does p o (is-done p o (one (start .pre .0) o refl (start .pre .1 .0) refl) refl refl refl (none-needed (frees (p .cells))))
+    (c .before .before .erase .ensures .1) (ap (Done 2) (c .before .before .erase .ensures .0))
 
 pub erase-spec : {M : Type 1} → statement M
 erase-spec = tie.close (tie.spec erase-requires cast-t7 same-length returns)

@@ -1,17 +1,29 @@
 -- `ops::head::pfl` meets its contract.
 use mathlib.Core.Path.{refl, sym, _∙_}
+use Prim.Native.Nat.{ℕ}
+use mathlib.Core.Logic.{_≢_}
 use native.Mathlib.Omega.{arith}
 use borrow.Author.Needs.{needs}
 use Rattle.ops.specs.GivesLaws.{refuses, does}
 use Rattle.ops.specs.TestLaws.{is-full, is-done, full, spare}
+use Rattle.pool.specs.ScriptLaws.{Opened}
 use Rattle.ops.specs.WordLaws.{two}
 use Rattle.answers.specs.Answers.{NO-ROOM}
 use Rattle.ops.specs.Replies.{operation}
-use Rattle.pool.specs.Pool.{Pool}
-use Rattle.pool.specs.Script.{PFL, Operation, effect}
+use Rattle.pool.specs.Script.{PFL, effect}
 use Rattle.table.specs.View.{view}
 use Rattle.ops.proofs.head.pfl.Statement.{statement}
 use Rattle.ops.proofs.head.pfl.Tie as tie
+
+-- the words are in order
+opened : (start : tie.Start) (v : ℕ) → Opened (view (start .args .s) (start .args .t .now)) (operation PFL (start .args .a) (start .args .b) v)
+opened start v = two (start .pre .0) _ refl (start .pre .1 .0 .0) refl (start .pre .1 .0 .1) (start .pre .1 .0 .2)
+
+-- past the test: a cell is free
+some-free : (c : tie.Else1) →
+    let a = c .before .before .before .before .args in
+    view (a .s) (a .t .now) .free ≢ 0
+some-free c q = c .if1 .left (c .before .free-head .ensures .0 ∙ q)
 
 free-head-requires : tie.Need-free-head-requires
 free-head-requires c κs = search needs
@@ -20,29 +32,25 @@ same-length : tie.Need-same-length
 same-length c = search needs
 
 returns : tie.Need-returns
-returns c = λ v.
-    let c0 = c .before .before .before .before in
-    let a = c0 .args in
-    let p : Pool = view (a .s) (a .t .now) in
-    let o : Operation = operation PFL (a .a) (a .b) v in
-    refuses o NO-ROOM (c0 .pre .0) (is-full p o (two (c0 .pre .0) o refl (c0 .pre .1 .0 .0) refl (c0 .pre .1 .0 .1) (c0 .pre .1 .0 .2)) refl refl refl (full p (c0 .pre .1 .1) (sym (c .before .free-head .ensures .0) ∙ c .if1 .taken))) (omega arith)
+returns c v =
+    let start = c .before .before .before .before in
+    let l = full _ (start .pre .1 .1) (sym (c .before .free-head .ensures .0) ∙ c .if1 .taken) in
+    refuses _ NO-ROOM (start .pre .0) (is-full _ _ (opened start v) refl refl refl l) (omega arith)
 
 prefix-list-requires : tie.Need-prefix-list-requires
 prefix-list-requires c κs =
-    let c0 = c .before .before .before .before .before in
-    (c0 .pre .0, (c0 .pre .1 .0, (c0 .pre .1 .1, λ q. c .before .if1 .left (c .before .before .free-head .ensures .0 ∙ q))))
+    let start = c .before .before .before .before .before in
+    (start .pre .0, (start .pre .1 .0, (start .pre .1 .1, some-free (c .before))))
 
 same-length-2 : tie.Need-same-length-2
 same-length-2 c = search needs
 
 returns-2 : tie.Need-returns-2
 unfolding effect
-returns-2 c = λ v.
-    let c0 = c .before .before .before .before .before .before .before .before in
-    let a = c0 .args in
-    let p : Pool = view (a .s) (a .t .now) in
-    let o : Operation = operation PFL (a .a) (a .b) v in
-    does p o (is-done p o (two (c0 .pre .0) o refl (c0 .pre .1 .0 .0) refl (c0 .pre .1 .0 .1) (c0 .pre .1 .0 .2)) refl refl refl (spare p (c0 .pre .1 .1) (λ q. c .before .before .before .before .if1 .left (c .before .before .before .before .before .free-head .ensures .0 ∙ q)))) (c .before .before .prefix-list .ensures) refl
+returns-2 c v =
+    let else1 = c .before .before .before .before in
+    let start = else1 .before .before .before .before in
+    does _ _ (is-done _ _ (opened start v) refl refl refl (spare _ (start .pre .1 .1) (some-free else1))) (c .before .before .prefix-list .ensures) refl
 
 pub pfl-spec : {M : Type 1} → statement M
 pfl-spec =

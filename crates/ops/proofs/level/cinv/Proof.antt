@@ -1,20 +1,36 @@
 -- `ops::level::cinv` meets its contract.
 use borrow.Author.Tests.{leb-true, leb-false, not-true, not-false, eq-eqb, ne-eqb, lt-ltb, le-ltb}
-use mathlib.Core.Path.{refl, sym, _∙_}
+use mathlib.Core.Path.{_≡_, refl, sym, _∙_}
 use native.Mathlib.Omega.{arith}
-use Prim.Native.Nat.{_≤_}
+use Prim.Native.Nat.{ℕ, _≤_}
 use borrow.Author.Needs.{needs}
 use Rattle.answers.specs.Answers.{OCCUPIED, NO-ROOM}
 use Rattle.ops.specs.Replies.{operation}
 use Rattle.ops.specs.GivesLaws.{refuses, does}
 use Rattle.ops.specs.TestLaws.{is-occupied, is-full, is-done}
+use Rattle.pool.specs.ScriptLaws.{Opened}
 use Rattle.ops.specs.WordLaws.{two}
 use Rattle.pool.specs.Pool.{Pool, holder, frees}
-use Rattle.pool.specs.Script.{CINV, Operation, effect}
+use Rattle.pool.specs.Script.{CINV, effect}
 use Rattle.table.specs.View.{view}
 use Rattle.pool.specs.Operations.{lengthOf}
 use Rattle.ops.proofs.level.cinv.Statement.{statement}
 use Rattle.ops.proofs.level.cinv.Tie as tie
+
+-- the words are in order
+opened : (start : tie.Start) (v : ℕ) → Opened (view (start .args .s) (start .args .t .now)) (operation CINV (start .args .a) (start .args .b) v)
+opened start v = two (start .pre .0) _ refl (start .pre .1 .0 .0) refl (start .pre .1 .0 .1) (start .pre .1 .0 .2)
+
+-- past the tests: the list b is vacant, and the cells are enough
+vacant : (c : tie.Else1) →
+    let a = c .before .before .before .before .args in
+    holder (view (a .s) (a .t .now)) (a .b) ≡ 0
+vacant c = sym (c .before .holder-of .ensures .0) ∙ c .if1 .left
+
+roomy : (c : tie.Else2) →
+    let a = c .before .before .before .before .before .before .before .args in
+    lengthOf (view (a .s) (a .t .now)) (a .a) ≤ frees (view (a .s) (a .t .now) .cells)
+roomy c = leb-true _ _ (sym (c .before .fits2 .ensures) ∙ not-false _ (c .if2 .left))
 
 holder-of-requires : tie.Need-holder-of-requires
 holder-of-requires c κs = search needs
@@ -23,12 +39,10 @@ same-length : tie.Need-same-length
 same-length c = search needs
 
 returns : tie.Need-returns
-returns c = λ v.
-    let c0 = c .before .before .before .before in
-    let a = c0 .args in
-    let p : Pool = view (a .s) (a .t .now) in
-    let o : Operation = operation CINV (a .a) (a .b) v in
-    refuses o OCCUPIED (c0 .pre .0) (is-occupied p o (two (c0 .pre .0) o refl (c0 .pre .1 .0 .0) refl (c0 .pre .1 .0 .1) (c0 .pre .1 .0 .2)) refl (rw (ne-eqb (holder p (a .b)) 0 (λ q. c .if1 .taken (c .before .holder-of .ensures .0 ∙ q))) refl)) (omega arith)
+returns c v =
+    let start = c .before .before .before .before in
+    let n = ne-eqb _ 0 (λ q. c .if1 .taken (c .before .holder-of .ensures .0 ∙ q)) in
+    refuses _ OCCUPIED (start .pre .0) (is-occupied _ _ (opened start v) refl (rw n refl)) (omega arith)
 
 fits-requires : tie.Need-fits-requires
 fits-requires c κs = search needs
@@ -37,32 +51,31 @@ same-length-2 : tie.Need-same-length-2
 same-length-2 c = search needs
 
 returns-2 : tie.Need-returns-2
-returns-2 c = λ v.
-    let c0 = c .before .before .before .before .before .before .before in
-    let a = c0 .args in
+returns-2 c v =
+    let else1 = c .before .before .before in
+    let start = else1 .before .before .before .before in
+    let a = start .args in
     let p : Pool = view (a .s) (a .t .now) in
-    let o : Operation = operation CINV (a .a) (a .b) v in
-    refuses o NO-ROOM (c0 .pre .0) (is-full p o (two (c0 .pre .0) o refl (c0 .pre .1 .0 .0) refl (c0 .pre .1 .0 .1) (c0 .pre .1 .0 .2)) refl (rw (eq-eqb (holder p (a .b)) 0 (sym (c .before .before .before .before .holder-of .ensures .0) ∙ c .before .before .before .if1 .left)) refl) refl (lt-ltb (frees (p .cells)) (lengthOf p (a .a)) (leb-false (lengthOf p (a .a)) (frees (p .cells)) (sym (c .before .fits2 .ensures) ∙ not-true _ (c .if2 .taken))))) (omega arith)
+    refuses _ NO-ROOM (start .pre .0) (is-full _ _ (opened start v) refl (rw (eq-eqb _ 0 (vacant else1)) refl) refl
+    (lt-ltb (frees (p .cells)) (lengthOf p (a .a)) (leb-false _ _ (sym (c .before .fits2 .ensures) ∙ not-true _ (c .if2 .taken))))) (omega arith)
 
 copy-inverted-requires : tie.Need-copy-inverted-requires
 copy-inverted-requires c κs =
-    let c0 = c .before .before .before .before .before .before .before .before in
-    let a = c0 .args in
-    let p : Pool = view (a .s) (a .t .now) in
-    (c0 .pre .0, (c0 .pre .1 .0, (c0 .pre .1 .1, (sym (c .before .before .before .before .before .holder-of .ensures .0) ∙ c .before .before .before .before .if1 .left, leb-true (lengthOf p (a .a)) (frees (p .cells)) (sym (c .before .before .fits2 .ensures) ∙ not-false _ (c .before .if2 .left))))))
+    let else1 = c .before .before .before .before in
+    let start = else1 .before .before .before .before in
+    (start .pre .0, (start .pre .1 .0, (start .pre .1 .1, (vacant else1, roomy (c .before)))))
 
 same-length-3 : tie.Need-same-length-3
 same-length-3 c = search needs
 
 returns-3 : tie.Need-returns-3
 unfolding effect
-returns-3 c = λ v.
-    let c0 = c .before .before .before .before .before .before .before .before .before .before .before in
-    let a = c0 .args in
-    let p : Pool = view (a .s) (a .t .now) in
-    let o : Operation = operation CINV (a .a) (a .b) v in
-    let l : lengthOf p (a .a) ≤ frees (p .cells) = leb-true (lengthOf p (a .a)) (frees (p .cells)) (sym (c .before .before .before .before .before .fits2 .ensures) ∙ not-false _ (c .before .before .before .before .if2 .left)) in
-    does p o (is-done p o (two (c0 .pre .0) o refl (c0 .pre .1 .0 .0) refl (c0 .pre .1 .0 .1) (c0 .pre .1 .0 .2)) refl (rw (eq-eqb (holder p (a .b)) 0 (sym (c .before .before .before .before .before .before .before .before .holder-of .ensures .0) ∙ c .before .before .before .before .before .before .before .if1 .left)) refl) refl (le-ltb (frees (p .cells)) (lengthOf p (a .a)) l)) (c .before .before .copy-inverted .ensures) refl
+returns-3 c v =
+    let else2 = c .before .before .before .before in
+    let else1 = else2 .before .before .before in
+    let start = else1 .before .before .before .before in
+    does _ _ (is-done _ _ (opened start v) refl (rw (eq-eqb _ 0 (vacant else1)) refl) refl (le-ltb _ _ (roomy else2)))
+    (c .before .before .copy-inverted .ensures) refl
 
 pub cinv-spec : {M : Type 1} → statement M
 cinv-spec =

@@ -1,17 +1,23 @@
 -- `ops::level::inv` meets its contract.
 use mathlib.Core.Path.{refl, sym, _∙_}
+use Prim.Native.Nat.{ℕ}
 use native.Mathlib.Omega.{arith}
+use Rattle.pool.specs.Pool.{Pool, frees}
 use borrow.Author.Needs.{needs}
 use Rattle.answers.specs.Answers.{SHARED}
 use Rattle.ops.specs.Replies.{operation}
 use Rattle.ops.specs.GivesLaws.{refuses, does}
 use Rattle.ops.specs.TestLaws.{is-shared, is-done, none-needed}
+use Rattle.pool.specs.ScriptLaws.{Opened}
 use Rattle.ops.specs.WordLaws.{one}
-use Rattle.pool.specs.Pool.{Pool, frees}
-use Rattle.pool.specs.Script.{INV, Operation, effect}
+use Rattle.pool.specs.Script.{INV, effect}
 use Rattle.table.specs.View.{view}
 use Rattle.ops.proofs.level.inv.Statement.{statement}
 use Rattle.ops.proofs.level.inv.Tie as tie
+
+-- the words are in order
+opened : (start : tie.Start) (b v : ℕ) → Opened (view (start .args .s) (start .args .t .now)) (operation INV (start .args .a) b v)
+opened start b v = one (start .pre .0) _ refl (start .pre .1 .0) refl
 
 any-shared-requires : tie.Need-any-shared-requires
 any-shared-requires c κs = search needs
@@ -20,29 +26,26 @@ same-length : tie.Need-same-length
 same-length c = search needs
 
 returns : tie.Need-returns
-returns c = λ b v.
-    let c0 = c .before .before .before .before in
-    let a = c0 .args in
-    let p : Pool = view (a .s) (a .t .now) in
-    let o : Operation = operation INV (a .a) b v in
-    refuses o SHARED (c0 .pre .0) (is-shared p o (one (c0 .pre .0) o refl (c0 .pre .1 .0) refl) refl refl (sym (c .before .any-shared .ensures) ∙ c .if1 .taken)) (omega arith)
+returns c b v =
+    let start = c .before .before .before .before in
+    refuses _ SHARED (start .pre .0) (is-shared _ _ (opened start b v) refl refl (sym (c .before .any-shared .ensures) ∙ c .if1 .taken)) (omega arith)
 
 invert-requires : tie.Need-invert-requires
 invert-requires c κs =
-    let c0 = c .before .before .before .before .before in
-    (c0 .pre .0, (c0 .pre .1 .0, (c0 .pre .1 .1, sym (c .before .before .any-shared .ensures) ∙ c .before .if1 .left)))
+    let start = c .before .before .before .before .before in
+    (start .pre .0, (start .pre .1 .0, (start .pre .1 .1, sym (c .before .before .any-shared .ensures) ∙ c .before .if1 .left)))
 
 same-length-2 : tie.Need-same-length-2
 same-length-2 c = search needs
 
 returns-2 : tie.Need-returns-2
 unfolding effect
-returns-2 c = λ b v.
-    let c0 = c .before .before .before .before .before .before .before .before in
-    let a = c0 .args in
-    let p : Pool = view (a .s) (a .t .now) in
-    let o : Operation = operation INV (a .a) b v in
-    does p o (is-done p o (one (c0 .pre .0) o refl (c0 .pre .1 .0) refl) refl refl (sym (c .before .before .before .before .before .any-shared .ensures) ∙ c .before .before .before .before .if1 .left) (none-needed (frees (p .cells)))) (c .before .before .invert .ensures) refl
+returns-2 c b v =
+    let else1 = c .before .before .before .before in
+    let start = else1 .before .before .before .before in
+    let own = sym (else1 .before .any-shared .ensures) ∙ else1 .if1 .left in
+    let p : Pool = view (start .args .s) (start .args .t .now) in
+    does _ _ (is-done _ _ (opened start b v) refl refl own (none-needed (frees (p .cells)))) (c .before .before .invert .ensures) refl
 
 pub inv-spec : {M : Type 1} → statement M
 inv-spec =

@@ -25,11 +25,12 @@ same-length c = search needs
 returns : tie.Need-returns
 unfolding effect
 returns c = λ b v.
-    let c0 = c .before .before .before in
-    let a = c0 .args in
+    let start = c .before .before .before in
+    let a = start .args in
     let p : Pool = view (a .s) (a .t .now) in
     let o : Operation = operation LENGTH (a .a) b v in
-    does p o (is-done p o (one (c0 .pre .0) o refl (c0 .pre .1 .0) refl) refl refl refl (none-needed (frees (p .cells)))) (itself (c0 .pre .0)) (ap (Done 2) (c .length .ensures .0))
+    does p o (is-done p o (one (start .pre .0) o refl (start .pre .1 .0) refl) refl refl refl (none-needed (frees (p .cells)))) (itself (start .pre .0))
+    (ap (Done 2) (c .length .ensures .0))
 
 pub length-spec : {M : Type 1} → statement M
 length-spec = tie.close (tie.spec length-requires cast-t7 same-length returns)

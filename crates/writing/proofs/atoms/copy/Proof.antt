@@ -15,7 +15,7 @@ abbrev μ-loop : tie.MeasureT-loop
 μ-loop out₀ at store n i₀ out i = n - i
 
 loop-holds : tie.Need-loop-holds Inv-loop μ-loop
-loop-holds c = let a = c .args in (omega arith, paste-zero (a .out .now) (a .at) (a .store .now))
+loop-holds c = let a = c .args in (omega arith, paste-zero _ (a .at) (a .store .now))
 
 element-copy-out-out : tie.Need-element-copy-out-out Inv-loop μ-loop
 element-copy-out-out c = search needs
@@ -24,7 +24,10 @@ add-out : tie.Need-add-out Inv-loop μ-loop
 add-out c = search needs
 
 slice-write-out : tie.Need-slice-write-out Inv-loop μ-loop
-slice-write-out c = let p = c .before .before .loop in let a = c .before .before .before .args in omega (arith, copy-length (a .out .now) (p .out) (a .store .now) (a .at) (p .i) (omega arith) (omega arith) (p .inv .1))
+slice-write-out c =
+    let turn = c .before .before in
+    let a = turn .before .args in
+    omega (arith, copy-length _ _ (a .store .now) (a .at) (turn .loop .i) (omega arith) (omega arith) (turn .loop .inv .1))
 
 add-i : tie.Need-add-i Inv-loop μ-loop
 add-i c = search needs
@@ -33,13 +36,18 @@ loop-less : tie.Need-loop-less Inv-loop μ-loop
 loop-less c = search needs
 
 loop-again : tie.Need-loop-again Inv-loop μ-loop
-loop-again c = let p = c .before .before .loop in let a = c .before .before .before .args in (omega arith, copy-step (a .out .now) (p .out) (a .store .now) (a .at) (p .i) (omega arith) (omega arith) (p .inv .1))
+loop-again c = (omega arith, copy-step _ _ _ _ _ (omega arith) (omega arith) (c .before .before .loop .inv .1))
 
 same-length : tie.Need-same-length Inv-loop μ-loop
-same-length c = let p = c .before .loop in let a = c .before .before .args in copy-length (a .out .now) (p .out) (a .store .now) (a .at) (p .i) (omega arith) (omega arith) (p .inv .1)
+same-length c =
+    let a = c .before .before .args in
+    copy-length _ _ (a .store .now) (a .at) (c .before .loop .i) (omega arith) (omega arith) (c .before .loop .inv .1)
 
 returns : tie.Need-returns Inv-loop μ-loop
-returns c = let p = c .before .loop in let a = c .before .before .args in let q : p .i ≡ a .n = omega arith in p .inv .1 ∙ ap (paste (a .out .now) (a .at) (a .store .now)) q
+returns c =
+    let a = c .before .before .args in
+    let q : c .before .loop .i ≡ a .n = omega arith in
+    c .before .loop .inv .1 ∙ ap (paste (a .out .now) (a .at) _) q
 
 pub copy-spec : {M : Type 1} → statement M
 copy-spec =

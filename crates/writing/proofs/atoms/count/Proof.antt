@@ -20,7 +20,7 @@ cast-result : tie.Need-cast-result
 cast-result c = search needs
 
 returns : tie.Need-returns
-returns c = let q = digits-by-bit (c .args .v) (omega arith) in (q .0, omega (arith, q .0, some-digits (c .args .v)), omega (arith, q .0, q .1))
+returns c = let q = digits-by-bit (c .args .v) (omega arith) in (q .0, omega (arith, some-digits (c .args .v)), omega arith)
 
 pub count-spec : {M : Type 1} → statement M
 count-spec = tie.close (tie.spec mul-odd add-odd sub-result cast-result returns)

@@ -18,7 +18,7 @@ add-out : tie.Need-add-out
 add-out c = search needs
 
 slice-write-out : tie.Need-slice-write-out
-slice-write-out c = omega (arith, ap length (one-digit (c .before .before .args .v) (c .if1 .taken)))
+slice-write-out c = omega (arith, ap length (one-digit _ (c .if1 .taken)))
 
 same-length : tie.Need-same-length
 same-length c = search needs
@@ -26,7 +26,7 @@ same-length c = search needs
 returns : tie.Need-returns
 returns c =
     let a = c .before .before .args in
-    rw (one-digit (a .v) (c .if1 .taken)) (put-one (a .out .now) (a .at) (a .end) (48 + a .v) (omega (arith, ap length (one-digit (a .v) (c .if1 .taken)))) (omega arith))
+    rw (one-digit _ (c .if1 .taken)) (put-one _ _ _ (48 + a .v) (omega (arith, ap length (one-digit _ (c .if1 .taken)))) (omega arith))
 
 count-requires : tie.Need-count-requires
 count-requires c κs = search needs
@@ -48,20 +48,23 @@ same-length-2 c = search needs
 
 returns-2 : tie.Need-returns-2
 returns-2 c =
-    let a = c .before .before .before .before .before .before .before .before .before .before .args in
-    let w = c .before .before .before .before .before .before .work-out in
-    let k = c .before .before .before .before .before .before .before .count in
-    put-store (a .out .now) _ (w .result) (numeral (a .v)) (a .at) (a .end) (k .result) (k .result) (c .before .before .copy .ensures) (omega arith) (omega arith) (omega arith) (k .ensures .0) (w .ensures .1) (omega arith)
+    let after-work-out = c .before .before .before .before .before .before in
+    let a = after-work-out .before .before .before .before .args in
+    let w = after-work-out .work-out in
+    let k = after-work-out .before .count in
+    put-store _ _ _ (numeral _) (a .at) (a .end) (k .result) (k .result) (c .before .before .copy .ensures) (omega arith) (omega arith) (omega arith)
+    (k .ensures .0) (w .ensures .1) (omega arith)
 
 same-length-3 : tie.Need-same-length-3
 same-length-3 c = search needs
 
 returns-3 : tie.Need-returns-3
 returns-3 c =
-    let a = c .before .before .before .before .before .before .before .before .before .before .args in
-    let w = c .before .before .before .before .before .before .work-out in
-    let k = c .before .before .before .before .before .before .before .count in
-    put-store (a .out .now) _ (w .result) (numeral (a .v)) (a .at) (a .end) (k .result) digitsMost (c .before .before .copy2 .ensures) (omega arith) (omega arith) (omega arith) (k .ensures .0) (w .ensures .1) (omega arith)
+    let after-work-out = c .before .before .before .before .before .before in
+    let w = after-work-out .work-out in
+    let k = after-work-out .before .count in
+    put-store _ _ _ (numeral _) _ _ _ digitsMost (c .before .before .copy2 .ensures) (omega arith) (omega arith) (omega arith) (k .ensures .0) (w .ensures .1)
+    (omega arith)
 
 pub put-atom-spec : {M : Type 1} → statement M
 put-atom-spec =

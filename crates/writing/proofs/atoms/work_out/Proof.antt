@@ -12,8 +12,7 @@ use Rattle.writing.proofs.atoms.work_out.Statement.{statement}
 use Rattle.writing.proofs.atoms.work_out.Tie as tie
 
 abbrev Inv-loop : tie.InvT-loop
-Inv-loop v n store₀ left₀ i₀ store left i =
-    (i ≤ digitsMost) × (length store ≡ digitsMost) × (lastDigits digitsMost left₀ ≡ lastDigits i left ++ drop i store)
+Inv-loop v n store₀ left₀ i₀ store left i = (i ≤ digitsMost) × (length store ≡ digitsMost) × (lastDigits digitsMost left₀ ≡ lastDigits i left ++ drop i store)
 
 abbrev μ-loop : tie.MeasureT-loop
 μ-loop v n store₀ left₀ i₀ store left i = i
@@ -46,10 +45,21 @@ loop-less : tie.Need-loop-less Inv-loop μ-loop
 loop-less c = search needs
 
 loop-again : tie.Need-loop-again Inv-loop μ-loop
-loop-again c = let p = c .before .loop in (omega arith, length-set (p .store) (p .i - 1) (48 + p .left % 8) ∙ p .inv .1, last-step (p .i) (p .left) (p .store) _ (omega arith) (omega arith) (p .inv .2))
+loop-again c =
+    let turn = c .before in (
+      omega arith,
+      length-set (turn .loop .store) (turn .loop .i - 1) (48 + turn .loop .left % 8) ∙ turn .loop .inv .1,
+      last-step _ (turn .loop .left) _ _ (omega arith) (omega arith) (turn .loop .inv .2),
+    )
 
 returns : tie.Need-returns Inv-loop μ-loop
-returns c = let p = c .before .loop in let z : p .i ≡ 0 = omega arith in let a = c .before .before .args in (p .inv .1, worked-out (a .v) (a .n) _ (p .store) (omega arith) (c .before .before .pre .0) (omega arith) (omega arith) refl (p .inv .2 ∙ none-left (p .i) (p .left) (p .store) z))
+returns c =
+    let turn = c .before in
+    let z : turn .loop .i ≡ 0 = omega arith in (
+      turn .loop .inv .1,
+      worked-out _ _ _ _ (omega arith) (turn .before .pre .0) (omega arith) (omega arith) refl
+          (turn .loop .inv .2 ∙ none-left _ (turn .loop .left) _ z),
+    )
 
 pub work-out-spec : {M : Type 1} → statement M
 work-out-spec =

@@ -18,14 +18,17 @@ Inv-loop s t x out₀ end after₀ w₀ out after w = Putting (view s t .cells) 
 abbrev μ-loop : tie.MeasureT-loop
 μ-loop s t x out₀ end after₀ w₀ out after w = end - w .size
 
-went : (c : tie.After-put-step Inv-loop μ-loop) → let p = c .before .before .before .before .before .loop in
-    let a = c .before .before .before .before .before .before .before .before .before .args in
+went : (c : tie.After-put-step Inv-loop μ-loop) →
+    let turn = c .before .before .before .before .before in
+    let a = turn .before .before .before .before .args in
     let cs = view (a .s) (a .t .now) .cells in
-    Putting cs (textAt cs (a .x)) (set (a .out .now) 0 40) (a .end) (c .put-step .last .1 .1 .1 .0) (c .put-step .last .1 .1 .0) (c .put-step .result) × (c .put-step .result .size ≤ a .end) × (p .w .size < c .put-step .result .size)
+    Putting cs (textAt cs (a .x)) (set (a .out .now) 0 40) (a .end) (c .put-step .last .1 .1 .1 .0) (c .put-step .last .1 .1 .0) (c .put-step .result)
+    × (c .put-step .result .size ≤ a .end) × (turn .loop .w .size < c .put-step .result .size)
 went c =
-    let p = c .before .before .before .before .before .loop in
-    let f = c .before .before .before .before .before .before .before .before .before .pre .1 .1 .0 in
-    put-on _ _ _ _ (p .out) (p .after) (p .w) (p .inv) (omega arith) (f .fits) (f .size) _ _ _ _ (c .put-step .ensures .1) (c .put-step .ensures .2)
+    let turn = c .before .before .before .before .before in
+    let start = turn .before .before .before .before in
+    let f = start .pre .1 .1 .0 in
+    put-on _ _ _ _ _ _ _ (turn .loop .inv) (omega arith) (f .fits) (f .size) _ _ _ _ (c .put-step .ensures .1) (c .put-step .ensures .2)
 
 slice-write-out : tie.Need-slice-write-out Inv-loop μ-loop
 slice-write-out c = omega (arith, some-text _ _ _ (c .before .before .pre .1 .1 .0))
@@ -34,27 +37,44 @@ begun-requires : tie.Need-begun-requires Inv-loop μ-loop
 begun-requires c κs = search needs
 
 loop-holds : tie.Need-loop-holds Inv-loop μ-loop
-loop-holds c = let q = c .before .before .before .pre in put-begins _ _ _ (c .before .before .before .args .out .now) _ (q .1 .0) (q .1 .1 .0) (q .1 .1 .1) (c .begun .ensures)
+loop-holds c =
+    let start = c .before .before .before in
+    let q = start .pre in
+    put-begins _ _ _ (start .args .out .now) _ (q .1 .0) (q .1 .1 .0) (q .1 .1 .1) (c .begun .ensures)
 
 put-step-requires : tie.Need-put-step-requires Inv-loop μ-loop
 put-step-requires c κs =
-    let p = c .before .before .before .before .loop in
-    let q = c .before .before .before .before .before .before .before .before .pre in
+    let turn = c .before .before .before .before in
+    let start = turn .before .before .before .before in
+    let q = start .pre in
     let f = q .1 .1 .0 in
-    let g = p .inv in
-    (q .0, (ready _ _ _ (p .after) (p .w) (g .walks) (omega arith) _ (q .0 .measured) (f .short) (shallow _ _ _ _ (p .out) (p .after) (p .w) g (omega arith) (f .fits)), (roomy _ _ _ _ (p .out) (p .after) (p .w) g (omega arith) (f .fits) (f .size), omega (arith, g .room, length-set (c .before .before .before .before .before .before .before .before .args .out .now) 0 40))))
+    let g = turn .loop .inv in (
+      q .0,
+      (
+        ready _ _ _ _ _ (g .walks) (omega arith) _ (q .0 .measured) (f .short)
+            (shallow _ _ _ _ _ _ (turn .loop .w) g (omega arith) (f .fits)),
+        (
+          roomy _ _ _ _ (turn .loop .out) (turn .loop .after) (turn .loop .w) g (omega arith) (f .fits) (f .size),
+          omega (arith, length-set (start .args .out .now) 0 40),
+        ),
+      ),
+    )
 
 loop-less : tie.Need-loop-less Inv-loop μ-loop
-loop-less c = let q = went (c .before .before) in omega (arith, q .1, q .2)
+loop-less c = let q = went (c .before .before) in omega arith
 
 loop-again : tie.Need-loop-again Inv-loop μ-loop
 loop-again c = went (c .before .before) .0
 
 same-length : tie.Need-same-length Inv-loop μ-loop
-same-length c = let p = c .before .before .loop in p .inv .room ∙ length-set (c .before .before .before .before .before .before .args .out .now) 0 40
+same-length c =
+    let start = c .before .before .before .before .before .before in
+    c .before .before .loop .inv .room ∙ length-set (start .args .out .now) 0 40
 
 returns : tie.Need-returns Inv-loop μ-loop
-returns c = let p = c .before .before .loop in put-ends _ _ _ _ (p .out) (p .after) (p .w) (p .inv) (c .before .before .before .before .before .before .pre .1 .1 .0) (omega arith)
+returns c =
+    let start = c .before .before .before .before .before .before in
+    put-ends _ _ _ _ _ _ _ (c .before .before .loop .inv) (start .pre .1 .1 .0) (omega arith)
 
 pub put-spec : {M : Type 1} → statement M
 put-spec =

@@ -23,8 +23,9 @@ put-atom-requires c κs = (omega (arith, ap (λ (v : ℕ). length (numeral v)) (
 
 part-requires : tie.Need-part-requires
 part-requires c κs =
-    let a = c .before .before .before .before .before .before .before .before .before .args in
-    let q = pass-size (view (a .s) (a .t .now) .cells) (a .w) (c .before .before .before .before .before .pass .result) (c .before .before .before .before .before .pass .ensures) in
+    let after-pass = c .before .before .before .before .before in
+    let a = after-pass .before .before .before .before .args in
+    let q = pass-size _ (a .w) (after-pass .pass .result) (after-pass .pass .ensures) in
     (omega (arith, q .0), omega (arith, q .1), omega (arith, c .before .before .before .put-atom .ensures .room))
 
 same-length : tie.Need-same-length
@@ -32,12 +33,17 @@ same-length c = search needs
 
 returns : tie.Need-returns
 returns c =
-    let a = c .before .before .before .before .before .before .before .before .before .before .before .before .args in
+    let after-put-atom = c .before .before .before .before .before .before in
+    let after-pass = after-put-atom .before .before in
+    let a = after-pass .before .before .before .before .args in
     let cs = view (a .s) (a .t .now) .cells in
-    let v = c .before .before .before .before .before .before .before .before .before .elem-of in
-    let e = c .before .before .before .before .before .before .before .before .pass .ensures in
-    let q = pass-size cs (a .w) (c .before .before .before .before .before .before .before .before .pass .result) e in
-    (e, put-then (a .out .now) _ _ (numeral (elemOf cs (a .w .at))) _ (a .w .size) _ (a .end) (put-value (v .ensures) (c .before .before .before .before .before .before .put-atom .ensures)) (omega (arith, q .0)) (c .before .before .part .ensures))
+    let v = after-pass .before .elem-of in
+    let e = after-pass .pass .ensures in
+    let q = pass-size cs (a .w) (after-pass .pass .result) e in (
+      e,
+      put-then (a .out .now) _ _ (numeral (elemOf cs (a .w .at))) _ (a .w .size) _ (a .end) (put-value (v .ensures) (after-put-atom .put-atom .ensures))
+          (omega (arith, q .0)) (c .before .before .part .ensures),
+    )
 
 pub put-pass-spec : {M : Type 1} → statement M
 put-pass-spec =

@@ -22,14 +22,20 @@ part-requires c κs =
     (omega (arith, q .0), omega (arith, q .1), simp length-set (omega arith))
 
 same-length : tie.Need-same-length
-same-length c = let a = c .before .before .before .before .before .before .args in c .before .before .part .ensures .room ∙ length-set (a .out .now) (a .w .size) 41
+same-length c =
+    let a = c .before .before .before .before .before .before .args in
+    c .before .before .part .ensures .room ∙ length-set (a .out .now) (a .w .size) 41
 
 returns : tie.Need-returns
 returns c =
-    let a = c .before .before .before .before .before .before .args in
-    let e = c .before .before .before .before .shut .ensures in
-    let q = shut-size (a .after .now) (a .w) (c .before .before .before .before .shut .result) e in
-    (e, put-then (a .out .now) _ _ (41 ∷ []) _ (a .w .size) _ (a .end) (put-one (a .out .now) (a .w .size) (a .end) 41 (omega (arith, q .0, q .1)) (omega arith)) (omega (arith, q .0)) (c .before .before .part .ensures))
+    let after-shut = c .before .before .before .before in
+    let a = after-shut .before .before .args in
+    let e = after-shut .shut .ensures in
+    let q = shut-size (a .after .now) (a .w) (after-shut .shut .result) e in (
+      e,
+      put-then (a .out .now) _ _ (41 ∷ []) _ (a .w .size) _ (a .end) (put-one (a .out .now) (a .w .size) (a .end) 41 (omega (arith, q .0, q .1)) (omega arith))
+          (omega (arith, q .0)) (c .before .before .part .ensures),
+    )
 
 pub put-shut-spec : {M : Type 1} → statement M
 put-shut-spec =
