@@ -35,10 +35,12 @@ pub mod TextEnds
 pub mod Atoms
 pub mod Demand2Kept
 pub mod WrongEngines
+pub mod WrongTexts
 pub mod Computed
 pub mod Refuted
 pub mod SlipsRefuted
 pub mod LooseRefuted
+pub mod TextRefuted
 pub mod Keeps
 pub mod SameParts
 pub mod OneOutcome

@@ -15,7 +15,8 @@ use Rattle.calls.specs.Read.{readIn}
 use Rattle.promises.specs.Demand1.{RunWork, RefusedCheck}
 use Rattle.promises.specs.Cells.{BorrowShares, ReadingUsesItsCells}
 use Rattle.promises.specs.Demand2.{SetUpGives, RestGives}
-use Rattle.promises.specs.WrongEngines.{setsUpDirty, spoilsWork, countsRefused, losesRest, copying, loadLate, takesLate}
+use Rattle.promises.specs.WrongEngines.{setsUpDirty, spoilsWork, copying}
+use Rattle.promises.specs.WrongTexts.{countsRefused, losesRest, loadLate, takesLate}
 use Rattle.promises.specs.Computed.{computed}
 use Rattle.promises.specs.Refuted.{zeros, prefix, two}
 

@@ -69,7 +69,7 @@ one-null : Holds one (λ i. nil)
 unfolding computed
 one-null = all-null (shown one) refl
 
-two-null : Holds two (λ i. nil)
+pub two-null : Holds two (λ i. nil)
 unfolding computed
 two-null = all-null (shown two) refl
 

@@ -1,25 +1,22 @@
 -- Engines that break a demand, each in one way: those that document 01 wants to see refused, the slips that it warns of, and some whose lists are
--- right and whose words are not.
+-- right and whose words are not. Those that are wrong about text stand in WrongTexts.
 use mathlib.Core.Bool.{Bool, true, cond, not, _&&_}
 use mathlib.Core.List.{List, [], _∷_}
 use Prim.Native.Nat.{ℕ, zero, suc, _+_, _-_}
 use lib.Dec.{eqb, ltb}
 use lib.ListN.{length, getD, set, take}
 use Rattle.answers.specs.Answers.{DONE, TABLE-SIZE, WORK-SPACE, SCRIPT, RESULTS, UNSOUND, SAME, SHARED, NO-ROOM}
-use Rattle.lists.specs.Lst.{Lst, nil, atom, list}
 use Rattle.pool.specs.Tally.{occ}
-use Rattle.pool.specs.Pool.{Cell, Pool, put, countOf, nextOf, setCount, holder, frees}
+use Rattle.pool.specs.Pool.{Pool, countOf, nextOf, setCount, holder, frees}
 use Rattle.pool.specs.Held.{into}
 use Rattle.pool.specs.Erase.{Dropping, step, total}
-use Rattle.pool.specs.Operations.{Made, decap, inv}
+use Rattle.pool.specs.Operations.{decap, inv}
 use Rattle.pool.specs.Check.{check, chained}
 use Rattle.pool.specs.Script.{PFA, DECAP, BORROW, ERASE, INV, CINV, CONC, Operation, Effect, Run, refusal, effect, tellsFirst, tellsNumber, tellsNothing, stops, goesOn, performed}
-use Rattle.text.specs.Marks.{listIn}
-use Rattle.text.specs.Text.{verdict}
 use Rattle.setup.specs.SetUp.{setUp}
-use Rattle.calls.specs.Entry.{badTable, badWork, shown, stored, used}
+use Rattle.calls.specs.Entry.{badTable, badWork, shown, used}
 use Rattle.calls.specs.Run.{Ran, operations, badScript, badResults, notRun, ranTo, ran}
-use Rattle.calls.specs.Read.{notRead, readIn}
+use Rattle.calls.specs.Read.{notRead}
 use Rattle.calls.specs.Write.{notWritten}
 use Rattle.promises.specs.Engine.{Engine, ours}
 
@@ -67,38 +64,6 @@ setsUpDirty = record { setUp = λ ts n. let g = setUp ts n in record { answer = 
 -- leaves other words in the work space
 abbrev pub spoilsWork : Engine
 spoilsWork = running (λ ts ws ss rs. let r = ran ts ws ss rs in record { answer = r .answer; count = r .count; table = r .table; work = []; results = r .results })
-
--- a text check with a number beside its refusal
-abbrev pub countsRefused : Engine
-countsRefused = record { setUp = ours .setUp; run = ours .run; read = ours .read; write = ours .write; check = λ xs. record { no = verdict xs .no; taken = 99 }; rest = ours .rest }
-
--- hands nothing back
-abbrev pub losesRest : Engine
-losesRest = record { setUp = ours .setUp; run = ours .run; read = ours .read; write = ours .write; check = ours .check; rest = λ xs. [] }
-
--- reads with the cells of an element taken after the later cells of its list: right lists in other cells
-unfoldable pub loadLate : Lst → ℕ → List Cell → Made
-loadLate nil f cs = record { free = f; cells = cs; head = 0 }
-loadLate (atom v l) f cs =
-    let z = loadLate l (nextOf cs f) cs in
-    record { free = z .free; cells = put (z .cells) f (record { kind = 0; elem = v; count = 1; next = z .head }); head = f }
-loadLate (list e l) f cs =
-    let z = loadLate l (nextOf cs f) cs in
-    let u = loadLate e (z .free) (z .cells) in
-    record { free = u .free; cells = put (u .cells) f (record { kind = 1; elem = u .head; count = 1; next = z .head }); head = f }
-
-abbrev readLate : Pool → ℕ → Lst → Pool
-readLate p h l = let z = loadLate l (p .free) (p .cells) in record { free = z .free; holders = set (p .holders) h (z .head); cells = z .cells }
-
-abbrev pub takesLate : Engine
-takesLate = record {
-  setUp = ours .setUp;
-  run = ours .run;
-  read = λ ts ws h xs. let r = readIn ts ws h xs in record { answer = r .answer; count = r .count; table = cond (eqb (r .answer) DONE) (stored ts (readLate (shown ts) h (listIn xs))) (r .table); work = r .work };
-  write = ours .write;
-  check = ours .check;
-  rest = ours .rest;
-}
 
 -- ours with another test for soundness and other rules for operations
 
