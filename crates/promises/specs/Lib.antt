@@ -40,6 +40,7 @@ pub mod Computed
 pub mod Refuted
 pub mod SlipsRefuted
 pub mod LooseRefuted
+pub mod RunsRefuted
 pub mod TextRefuted
 pub mod Keeps
 pub mod SameParts

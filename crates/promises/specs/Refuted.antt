@@ -112,7 +112,7 @@ invents-number d =
     omega (arith, number-le n)
 
 -- PFA into a holder is refused for nothing but lack of room
-pfa-passes : (p : Pool) (v : ℕ) → None (beforeRoom p (prefixing 0 v))
+pub pfa-passes : (p : Pool) (v : ℕ) → None (beforeRoom p (prefixing 0 v))
 pfa-passes p v = (code, (held, ((λ s. tells-among PFA withB .1 refl (s .0)), ((λ s. tells-among PFA takingFirst .1 refl (s .0)), ((λ s. tells-among PFA fillingB .1 refl (s .0)), (shared, tt))))))
   where
     code : BadCode (prefixing 0 v) → ⊥
@@ -134,17 +134,22 @@ unfolding Walk
 from-null cs zero b c e n w = n (sym w ∙ e)
 from-null cs (suc k) b c e n w = let z = subst (λ (x : ℕ). 0 < countOf cs x) e (w .1 .0) in omega arith
 
-none-used : (p : Pool) → p .holders ≡ replicate holdersMost 0 → (c : ℕ) → c ≢ 0 → Used p c → ⊥
+pub none-used : (p : Pool) → p .holders ≡ replicate holdersMost 0 → (c : ℕ) → c ≢ 0 → Used p c → ⊥
 unfolding ListAt
 none-used p e c n (h, _, (k, w)) = from-null (p .cells) k (holder p h) c (all-null p e h) n w
+
+-- the one cell erased, and not free again
+abbrev pub lost : List ℕ
+lost = neverLends .run (full neverLends) (zeros 2) (erasing 0 0 0) (zeros 2) .table
+
+pub lost-reached : Reached neverLends lost
+unfolding computed
+lost-reached = ranOn (zeros 2) (erasing 0 0 0) (zeros 2) (ranOn (zeros 2) (prefix 0 5) (zeros 2) (made (zeros 70) 1 refl))
 
 -- freed cells out of use: no holder reaches the one cell, and one is needed
 pub never-lends : NoRoomToPerform neverLends → ⊥
 unfolding computed
 never-lends d =
-    let t = full neverLends in
-    let g = neverLends .run t (zeros 2) (erasing 0 0 0) (zeros 2) .table in
-    let r : Reached neverLends g = ranOn (zeros 2) (erasing 0 0 0) (zeros 2) (ranOn (zeros 2) (prefix 0 5) (zeros 2) (made (zeros 70) 1 refl)) in
-    let k : Number (Used (shown g)) 1 0 = miss (none-used (shown g) refl 1 (λ z. omega arith)) start in
-    let n = d g (zeros 2) (zeros 2) (prefixing 0 5) 0 1 (inl r) (λ h. omega arith) (omega arith) (pfa-passes (shown g) 5) k (inl (inl refl, refl)) .0 refl in
+    let k : Number (Used (shown lost)) 1 0 = miss (none-used (shown lost) refl 1 (λ z. omega arith)) start in
+    let n = d lost (zeros 2) (zeros 2) (prefixing 0 5) 0 1 (inl lost-reached) (λ h. omega arith) (omega arith) (pfa-passes (shown lost) 5) k (inl (inl refl, refl)) .0 refl in
     omega (arith, n)

@@ -46,7 +46,7 @@ first-count-only d =
     omega (arith, w .3)
 
 -- nothing is free where the chain is empty
-none-free : (p : Pool) → p .free ≡ 0 → (c : ℕ) → Free p c → ⊥
+pub none-free : (p : Pool) → p .free ≡ 0 → (c : ℕ) → Free p c → ⊥
 unfolding Chain tally
 none-free p e c (fs, k, o) = go fs k o
   where

@@ -1,5 +1,5 @@
--- Engines that break a demand, each in one way: those that document 01 wants to see refused, the slips that it warns of, and some whose lists are
--- right and whose words are not. Those that are wrong about text stand in WrongTexts.
+-- Engines that break a demand, each in one way: those that document 01 wants to see refused, the slips that it warns of, some whose lists are
+-- right and whose words are not, and some that stop or free where they should not. Those that are wrong about text stand in WrongTexts.
 use mathlib.Core.Bool.{Bool, true, cond, not, _&&_}
 use mathlib.Core.List.{List, [], _∷_}
 use Prim.Native.Nat.{ℕ, zero, suc, _+_, _-_}
@@ -12,7 +12,7 @@ use Rattle.pool.specs.Held.{into}
 use Rattle.pool.specs.Erase.{Dropping, step, total}
 use Rattle.pool.specs.Operations.{decap, inv}
 use Rattle.pool.specs.Check.{check, chained}
-use Rattle.pool.specs.Script.{PFA, DECAP, BORROW, ERASE, INV, CINV, CONC, Operation, Effect, Run, refusal, effect, tellsFirst, tellsNumber, tellsNothing, stops, goesOn, performed}
+use Rattle.pool.specs.Script.{PFA, DECAP, BORROW, ERASE, INV, CINV, CONC, Operation, Effect, Run, refusal, effect, tellsFirst, tellsNumber, tellsNothing, stops, goesOn, after, performed}
 use Rattle.setup.specs.SetUp.{setUp}
 use Rattle.calls.specs.Entry.{badTable, badWork, shown, used}
 use Rattle.calls.specs.Run.{Ran, operations, badScript, badResults, notRun, ranTo, ran}
@@ -39,9 +39,17 @@ alwaysRefuses = record {
 abbrev pub doesNothing : Engine
 doesNothing = running (λ ts ws ss rs. let r = ran ts ws ss rs in record { answer = r .answer; count = r .count; table = ts; work = ws; results = rs })
 
+-- ours with another table afterwards
+abbrev leaving : (List ℕ → List ℕ → List ℕ → List ℕ → List ℕ) → Engine
+leaving f = running (λ ts ws ss rs. let r = ran ts ws ss rs in record { answer = r .answer; count = r .count; table = f ts ws ss rs; work = r .work; results = r .results })
+
 -- does a script's first operation, and leaves the table at that
 abbrev pub firstOnly : Engine
-firstOnly = running (λ ts ws ss rs. let r = ran ts ws ss rs in record { answer = r .answer; count = r .count; table = ran ts ws (take 4 ss) rs .table; work = r .work; results = r .results })
+firstOnly = leaving (λ ts ws ss rs. ran ts ws (take 4 ss) rs .table)
+
+-- undoes all of a script where an operation is refused
+abbrev pub undoesAll : Engine
+undoesAll = running (λ ts ws ss rs. let r = ran ts ws ss rs in cond (eqb (r .answer) DONE) r (notRun (r .answer) ts (r .work) rs))
 
 abbrev starts : ℕ → List ℕ → Bool
 starts c ss = eqb (getD ss 0 0) c
@@ -83,6 +91,10 @@ ranBy sound perform ts ws ss rs =
 abbrev ruled : (Pool → Operation → ℕ) → (Pool → Operation → Effect) → Engine
 ruled f g = running (ranBy check (performedBy f g))
 
+-- passes over a refused operation: the answer and the number done are right, and the later ones are done too
+abbrev pub goesOnRefused : Engine
+goesOnRefused = leaving (λ ts ws ss rs. ranBy check (performedBy (λ p o. DONE) (λ p o. tellsNothing (after p o))) ts ws ss rs .table)
+
 -- does its work, and has one answer for every operation: nothing to say
 abbrev pub constantAnswer : Engine
 constantAnswer = ruled refusal (λ p o. tellsNothing (effect p o .pool))
@@ -97,9 +109,17 @@ copies p o = cond (eqb (o .code) BORROW && eqb (refusal p (inverts o)) DONE) (te
 abbrev pub copying : Engine
 copying = ruled refusal copies
 
+-- allows what ours refuses
+abbrev allowing : (Pool → Operation → Bool) → Engine
+allowing f = ruled (λ p o. cond (f p o) DONE (refusal p o)) effect
+
+-- DECAP that does not ask whether its cell is shared
+abbrev pub decapsShared : Engine
+decapsShared = allowing (λ p o. eqb (o .code) DECAP && eqb (refusal p o) SHARED)
+
 -- INV tested by the first count only
 abbrev pub firstCountOnly : Engine
-firstCountOnly = ruled (λ p o. cond (eqb (o .code) INV && (eqb (refusal p o) SHARED && eqb (countOf (p .cells) (holder p (o .a))) 1)) DONE (refusal p o)) effect
+firstCountOnly = allowing (λ p o. eqb (o .code) INV && (eqb (refusal p o) SHARED && eqb (countOf (p .cells) (holder p (o .a))) 1))
 
 -- ERASE that goes on behind a cell whose count is not yet 0
 unfoldable pub lowering : ℕ → Dropping → Dropping
@@ -132,7 +152,7 @@ decapRaises = recounts suc
 
 -- CONC with one holder named twice
 abbrev pub joinsItself : Engine
-joinsItself = ruled (λ p o. cond (eqb (o .code) CONC && eqb (refusal p o) SAME) DONE (refusal p o)) effect
+joinsItself = allowing (λ p o. eqb (o .code) CONC && eqb (refusal p o) SAME)
 
 -- a count check: every count is the arrows, and the free chain is right, but nothing asks what a holder reaches
 unfoldable pub countsRight : ℕ → Pool → Bool
