@@ -6,12 +6,13 @@ use native.Mathlib.Omega.{arith}
 use lib.ListN.{length, drop, take, length-drop}
 use lib.Seq.{take-all}
 use borrow.Author.Tests.{eq-eqb, ne-eqb}
+use Rattle.answers.specs.Answers.{outcome, refused, done}
+use Rattle.answers.specs.declared.Outcome.{Outcome}
 use Rattle.text.specs.Text as text
-use Rattle.text.specs.Text.{begin, State, at, taken, run, answer, scanned, verdict, restAt, done}
+use Rattle.text.specs.Text.{begin, State, at, taken, run, answer, scanned, verdict, restAt}
 use Rattle.text.specs.Accepted.{right-size, taken-within}
-use Rattle.scan.specs.Outcomes.{Sized, scannedAs, answeredAs, refusedAs, doneAs}
+use Rattle.scan.specs.Outcomes.{Sized, scannedAs, answeredAs}
 use Rattle.scan.specs.declared.Scanned.{Scanned}
-use Rattle.scan.specs.declared.Answer.{Answer}
 
 -- a refusal takes no bytes
 refused-none : (st : State) → ((answer st) .no ≡ 0 → ⊥) → (answer st) .taken ≡ 0
@@ -19,38 +20,35 @@ refused-none (at t n) h = refl
 refused-none (text.refused k) h = refl
 refused-none (taken n) h = absurd (h refl)
 
-module _ (s : List ℕ) (z : Sized s) (r : Scanned) (e : r ≡ scannedAs s) where
+module _ {s : List ℕ} {r : Scanned} (z : Sized s) (e : r ≡ scannedAs s) where
   sized : verdict s ≡ scanned s
   sized = right-size s (z .some) (z .small) (z .whole)
 
   no : r .answer ≡ (scanned s) .no
   no = ap (λ (x : Scanned). x .answer) e
 
-  bytes : r .taken ≡ (scanned s) .taken
-  bytes = ap (λ (x : Scanned). x .taken) e
+  pub checked-done : r .answer ≡ 0 → done (r .taken) ≡ answeredAs (verdict s)
+  checked-done q = ap (λ (k : ℕ). outcome k (r .taken)) (sym q ∙ no) ∙ ap (λ (x : Scanned). outcome ((scanned s) .no) (x .taken)) e ∙ ap answeredAs (sym sized)
 
-  pub checked-done : r .answer ≡ 0 → doneAs (r .taken) ≡ answeredAs (verdict s)
-  checked-done q =
-      ap (λ (k : ℕ). record { no = k; taken = r .taken }) (sym q ∙ no) ∙ ap (λ (k : ℕ). record { no = (scanned s) .no; taken = k }) bytes ∙ ap answeredAs (sym sized)
-
-  pub checked-refused : (r .answer ≡ 0 → ⊥) → refusedAs (r .answer) ≡ answeredAs (verdict s)
+  pub checked-refused : (r .answer ≡ 0 → ⊥) → refused (r .answer) ≡ answeredAs (verdict s)
   unfolding scanned
   checked-refused q =
       let none : (scanned s) .taken ≡ 0 = refused-none (run (at begin 0) s) (λ w. q (no ∙ w)) in
-      ap (λ (k : ℕ). record { no = r .answer; taken = k }) (sym none) ∙ ap (λ (k : ℕ). record { no = k; taken = (scanned s) .taken }) no ∙ ap answeredAs (sym sized)
+      ap (outcome (r .answer)) (sym none) ∙ ap (λ (k : ℕ). outcome k ((scanned s) .taken)) no ∙ ap answeredAs (sym sized)
 
 -- where the rest begins
-pub rest-taken : (s : List ℕ) (a : Answer) → a ≡ answeredAs (verdict s) → a .no ≡ 0 → (a .taken ≡ restAt s) × (a .taken ≤ length s)
-rest-taken s a e z =
-    let n : (verdict s) .no ≡ 0 = ap (λ (x : Answer). x .no) (sym e) ∙ z in
-    let t : a .taken ≡ (verdict s) .taken = ap (λ (x : Answer). x .taken) e in
-    let q : verdict s ≡ done ((verdict s) .taken) = ap (λ (k : ℕ). record { no = k; taken = (verdict s) .taken }) n in
-    (t ∙ simp (eq-eqb _ _ n), omega (arith, taken-within s ((verdict s) .taken) q))
+module _ (s : List ℕ) {a : Outcome} (e : a ≡ answeredAs (verdict s)) where
+  pub rest-taken : a .answer ≡ 0 → (a .count ≡ restAt s) × (a .count ≤ length s)
+  rest-taken z =
+      let n : (verdict s) .no ≡ 0 = ap (λ (x : Outcome). x .answer) (sym e) ∙ z in
+      let t : a .count ≡ (verdict s) .taken = ap (λ (x : Outcome). x .count) e in
+      let q : verdict s ≡ text.done ((verdict s) .taken) = ap (λ (k : ℕ). record { no = k; taken = (verdict s) .taken }) n in
+      (t ∙ simp (eq-eqb _ _ n), omega (arith, taken-within s ((verdict s) .taken) q))
 
-pub rest-end : (s : List ℕ) (a : Answer) → a ≡ answeredAs (verdict s) → (a .no ≡ 0 → ⊥) → (length s ≡ restAt s) × (length s ≤ length s)
-rest-end s a e z =
-    let n : (verdict s) .no ≡ 0 → ⊥ = λ h. z (ap (λ (x : Answer). x .no) e ∙ h) in
-    (simp (ne-eqb _ _ n), omega arith)
+  pub rest-end : (a .answer ≡ 0 → ⊥) → (length s ≡ restAt s) × (length s ≤ length s)
+  rest-end z =
+      let n : (verdict s) .no ≡ 0 → ⊥ = λ h. z (ap (λ (x : Outcome). x .answer) e ∙ h) in
+      (simp (ne-eqb _ _ n), omega arith)
 
 -- the part from a start to the end, as a slice's part has it
 pub whole-rest : (a : ℕ) (s : List ℕ) → take (length s - a) (drop a s) ≡ drop a s

@@ -5,6 +5,8 @@ use mathlib.Core.List.{List}
 use mathlib.Core.Bool.{cond}
 use lib.ListN.{length}
 use lib.Dec.{eqb}
+use Rattle.answers.specs.Answers.{outcome}
+use Rattle.answers.specs.declared.Outcome.{Outcome}
 use Rattle.lists.specs.Lst.{extent}
 use Rattle.text.specs.Limits.{recordBytes, textMost}
 use Rattle.text.specs.Text as text
@@ -12,7 +14,6 @@ use Rattle.text.specs.Text.{scanned}
 use Rattle.text.specs.Marks.{listIn}
 use Rattle.scan.specs.Places.{Outlook}
 use Rattle.scan.specs.declared.Scanned.{Scanned}
-use Rattle.scan.specs.declared.Answer.{Answer}
 
 -- a text that the scan may be lent
 pub record Sized (s : List ℕ) : Type 0 where
@@ -26,14 +27,9 @@ refusedScan k = record { answer = k; taken = 0; extent = 0 }
 abbrev pub doneScan : ℕ → ℕ → Scanned
 doneScan n e = record { answer = 0; taken = n; extent = e }
 
-abbrev pub refusedAs : ℕ → Answer
-refusedAs k = record { no = k; taken = 0 }
-
-abbrev pub doneAs : ℕ → Answer
-doneAs n = record { no = 0; taken = n }
-
-abbrev pub answeredAs : text.Answer → Answer
-answeredAs a = record { no = a .no; taken = a .taken }
+-- what check says
+abbrev pub answeredAs : text.Answer → Outcome
+answeredAs a = outcome (a .no) (a .taken)
 
 -- the extent counts where the text is taken
 abbrev pub saying : text.Answer → ℕ → Scanned

@@ -4,11 +4,13 @@ ghost use Prim.Native.Nat.{_+_, _≤_};
 ghost use lib.ListN.{length, drop};
 ghost use denote.Ref.{ptr};
 ghost use Rattle.text.specs.Text.{verdict, restAt};
-ghost use Rattle.scan.specs.Outcomes.{scannedAs, answeredAs, refusedAs, doneAs, refusedScan, doneScan, told, Sized};
+ghost use Rattle.scan.specs.Outcomes.{scannedAs, answeredAs, refusedScan, doneScan, told, Sized};
 ghost use Rattle.scan.specs.Places.{outlook, overAt};
 use crate::limits::Record;
 use crate::step::Place;
 use crate::step::Step;
+use answers::Answer;
+use answers::Outcome;
 
 pub mod limits;
 pub mod octals;
@@ -43,26 +45,6 @@ impl Scanned {
     }
 }
 
-// What the check answers: its number, and the bytes taken.
-pub struct Answer {
-    pub no: u32,
-    pub taken: u32,
-}
-
-impl Answer {
-    pub fn refused(no: u32) -> Answer
-        ensures { λ r. ⌜ r ≡ refusedAs no ⌝ }
-    {
-        Answer { no, taken: 0 }
-    }
-
-    pub fn done(taken: u32) -> Answer
-        ensures { λ r. ⌜ r ≡ doneAs taken ⌝ }
-    {
-        Answer { no: 0, taken }
-    }
-}
-
 // The fill behind the last ")".
 fn ending(text: &[u8], from: usize, elements: u32) -> Scanned
     requires { ⌜ Sized (now text) ⌝ }
@@ -72,7 +54,7 @@ fn ending(text: &[u8], from: usize, elements: u32) -> Scanned
     let mut i = from;
     while i % Record::BYTES != 0 {
         if text[i] != b' ' {
-            return Scanned::refused(answers::Answer::NOT_A_LIST);
+            return Scanned::refused(Answer::NOT_A_LIST);
         }
         i += 1;
     }
@@ -85,7 +67,7 @@ pub fn scan(text: &[u8]) -> Scanned
     ensures { λ r. ⌜ r ≡ scannedAs (now (text .entry)) ⌝ }
 {
     if text[0] != b'(' {
-        return Scanned::refused(answers::Answer::NOT_A_LIST);
+        return Scanned::refused(Answer::NOT_A_LIST);
     }
     let mut p = Place::opened();
     while p.at < text.len() {
@@ -98,26 +80,26 @@ pub fn scan(text: &[u8]) -> Scanned
             return ending(text, p.at, p.elements);
         }
     }
-    Scanned::refused(answers::Answer::NOT_A_LIST)
+    Scanned::refused(Answer::NOT_A_LIST)
 }
 
-pub fn check(text: &[u8]) -> Answer
+pub fn check(text: &[u8]) -> Outcome
     ensures { λ r. ⌜ r ≡ answeredAs (verdict (now (text .entry))) ⌝ }
 {
     if text.len() % Record::BYTES != 0 {
-        return Answer::refused(answers::Answer::TEXT_SIZE);
+        return Outcome::refused(Answer::TEXT_SIZE);
     }
     if text.len() > Record::TEXT {
-        return Answer::refused(answers::Answer::TEXT_SIZE);
+        return Outcome::refused(Answer::TEXT_SIZE);
     }
     if text.len() == 0 {
-        return Answer::refused(answers::Answer::END);
+        return Outcome::refused(Answer::END);
     }
     let s = scan(text);
-    if s.answer == 0 {
-        Answer::done(s.taken)
+    if s.answer == Answer::DONE {
+        Outcome::done(s.taken)
     } else {
-        Answer::refused(s.answer)
+        Outcome::refused(s.answer)
     }
 }
 
@@ -125,8 +107,8 @@ fn rest_start(text: &[u8]) -> usize
     ensures { λ r. ⌜ (r ≡ restAt (now (text .entry))) × (r ≤ length (now (text .entry))) ⌝ }
 {
     let a = check(text);
-    if a.no == 0 {
-        a.taken as usize
+    if a.answer == Answer::DONE {
+        a.count as usize
     } else {
         text.len()
     }

@@ -10,6 +10,7 @@ ghost use Rattle.scan.specs.Places.{openOf, tooLong, faultOf, Inside, Cl
 use crate::limits::Digits;
 use crate::limits::Level;
 use crate::octals;
+use answers::Answer;
 
 // Bytes behind, levels open, elements begun; `first`: behind a "(", where a ")" may stand too. No level is open behind the whole list.
 pub struct Place {
@@ -56,7 +57,7 @@ fn closed(text: &[u8], depth: u32, elements: u32, at: usize) -> Step
     let mut i = at;
     while d > 0 {
         if i >= text.len() {
-            return Step::Fault(answers::Answer::NOT_A_LIST);
+            return Step::Fault(Answer::NOT_A_LIST);
         }
         if text[i] == b',' {
             return Step::Mark(Place {
@@ -67,7 +68,7 @@ fn closed(text: &[u8], depth: u32, elements: u32, at: usize) -> Step
             });
         }
         if text[i] != b')' {
-            return Step::Fault(answers::Answer::NOT_A_LIST);
+            return Step::Fault(Answer::NOT_A_LIST);
         }
         i += 1;
         d -= 1;
@@ -87,7 +88,7 @@ fn open(depth: u32, elements: u32, at: usize) -> Step
     ensures { λ r. ⌜ r ≡ openOf depth elements at ⌝ }
 {
     if depth >= Level::MOST {
-        return Step::Fault(answers::Answer::DEEP);
+        return Step::Fault(Answer::DEEP);
     }
     Step::Mark(Place {
         at: at + 1,
@@ -119,10 +120,10 @@ fn digits(text: &[u8], p: Place) -> Step
     let at = p.at;
     let end = octals::run_end(text, at + 1);
     if too_long(end - at, text[at]) {
-        return Step::Fault(answers::Answer::ATOM);
+        return Step::Fault(Answer::ATOM);
     }
     if end >= text.len() {
-        return Step::Fault(answers::Answer::NOT_A_LIST);
+        return Step::Fault(Answer::NOT_A_LIST);
     }
     if text[end] == b',' {
         return Step::Mark(Place {
@@ -133,7 +134,7 @@ fn digits(text: &[u8], p: Place) -> Step
         });
     }
     if text[end] != b')' {
-        return Step::Fault(answers::Answer::NOT_A_LIST);
+        return Step::Fault(Answer::NOT_A_LIST);
     }
     closed(text, p.depth - 1, p.elements + 1, end + 1)
 }
@@ -146,7 +147,7 @@ fn atom(text: &[u8], p: Place) -> Step
 {
     let second = p.at + 1;
     if second >= text.len() {
-        return Step::Fault(answers::Answer::NOT_A_LIST);
+        return Step::Fault(Answer::NOT_A_LIST);
     }
     if text[second] == b',' {
         return Step::Mark(Place {
@@ -171,10 +172,10 @@ pub fn take(text: &[u8], p: Place) -> Step
         return open(p.depth, p.elements, at);
     }
     if text[at] != b')' {
-        return Step::Fault(answers::Answer::NOT_A_LIST);
+        return Step::Fault(Answer::NOT_A_LIST);
     }
     if p.first {
         return closed(text, p.depth - 1, p.elements, at + 1);
     }
-    Step::Fault(answers::Answer::NOT_A_LIST)
+    Step::Fault(Answer::NOT_A_LIST)
 }

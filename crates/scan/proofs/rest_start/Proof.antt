@@ -11,10 +11,10 @@ cast-result : tie.Need-cast-result
 cast-result c = search needs
 
 returns : tie.Need-returns
-returns c = rest-taken (c .before .before .before .before .before .args .text .now) (c .before .before .before .check .result) (c .before .before .before .check .ensures) (c .before .if1 .taken)
+returns c = rest-taken _ (c .before .before .before .check .ensures) (c .before .if1 .taken)
 
 returns-2 : tie.Need-returns-2
-returns-2 c = rest-end (c .before .before .before .before .args .text .now) (c .before .before .check .result) (c .before .before .check .ensures) (c .if1 .left)
+returns-2 c = rest-end _ (c .before .before .check .ensures) (c .if1 .left)
 
 pub rest-start-spec : {M : Type 1} → statement M
 rest-start-spec = tie.close (tie.spec check-requires cast-result returns returns-2)
