@@ -26,8 +26,8 @@ returns : tie.Need-returns
 returns c =
     let after-answer-line = c .before .before .before .before .before .before .before .before in
     let start = after-answer-line .before .before .before .before .before .before .before .before .before .before .before .before .before in
-    let a = start .args in
-    stands-line _ _ _ _ (a .table .now) _ _ _ (start .pre) _ _ _ _ (after-answer-line .answer-line .kept .1 .0) (after-answer-line .answer-line .kept .1 .1 .0)
+    stands-line _ _ _ _ (start .args .table .now) _ _ _ (start .pre) _ _ _ _ (after-answer-line .answer-line .kept .1 .0)
+    (after-answer-line .answer-line .kept .1 .1 .0)
     (after-answer-line .answer-line .kept .1 .1 .1 .0) (after-answer-line .answer-line .kept .1 .1 .1 .1 .0) (after-answer-line .answer-line .ensures)
 
 take-bytes-requires : tie.Need-take-bytes-requires
@@ -42,8 +42,7 @@ same-length-7 c = search needs
 returns-2 : tie.Need-returns-2
 returns-2 c =
     let start = c .before .before .before .before .before .before .before .before .before .before .before .before .before .before in
-    let a = start .args in
-    stands-bytes _ _ _ _ (a .table .now) _ _ _ (start .pre) _ (c .before .before .take-bytes .kept .1 .0) (c .before .before .take-bytes .ensures)
+    stands-bytes _ _ _ _ (start .args .table .now) _ _ _ (start .pre) _ (c .before .before .take-bytes .kept .1 .0) (c .before .before .take-bytes .ensures)
 
 finish-requires : tie.Need-finish-requires
 finish-requires c κs = search needs
@@ -51,8 +50,7 @@ finish-requires c κs = search needs
 returns-3 : tie.Need-returns-3
 returns-3 c =
     let start = c .before .before .before .before .before .before .before .before .before .before .before in
-    let a = start .args in
-    stands-end _ _ _ _ (a .table .now) _ _ _ (start .pre) (c .finish .ensures)
+    stands-end _ _ _ _ (start .args .table .now) _ _ _ (start .pre) (c .finish .ensures)
 
 read-bytes-requires : tie.Need-read-bytes-requires
 read-bytes-requires c κs = search needs
@@ -63,8 +61,7 @@ same-length-8 c = search needs
 returns-4 : tie.Need-returns-4
 returns-4 c =
     let start = c .before .before .before .before .before .before .before .before .before .before .before .before .before .before in
-    let a = start .args in
-    stands-read _ _ _ _ (a .table .now) _ _ _ (start .pre) _ (c .before .before .read-bytes .kept .1 .0) (c .before .before .read-bytes .ensures)
+    stands-read _ _ _ _ (start .args .table .now) _ _ _ (start .pre) _ (c .before .before .read-bytes .kept .1 .0) (c .before .before .read-bytes .ensures)
 
 pub turn-spec : {M : Type 1} → statement M
 turn-spec =

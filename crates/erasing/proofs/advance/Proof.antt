@@ -25,11 +25,8 @@ holder-of-requires c κs = search needs
 
 count-of-requires : tie.Need-count-of-requires
 count-of-requires c κs =
-    let start = c .before .before .before .before in (
-      start .pre .0,
-      rw (c .before .holder-of .ensures .0)
-          (holder-head _ _ (start .pre .0) (start .pre .1 .1 .0) _ (start .pre .1 .1 .1 .1) .cell),
-    )
+    let start = c .before .before .before .before in
+    (start .pre .0, rw (c .before .holder-of .ensures .0) (holder-head _ _ (start .pre .0) (start .pre .1 .1 .0) _ (start .pre .1 .1 .1 .1) .cell))
 
 behead-requires : tie.Need-behead-requires
 behead-requires c κs =

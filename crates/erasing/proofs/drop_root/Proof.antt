@@ -14,7 +14,8 @@ use Rattle.erasing.proofs.drop_root.Tie as tie
 
 abbrev Inv-loop : tie.InvT-loop
 Inv-loop s t₀ x e₀ t e =
-    Table s t × (view s t .holders ≡ view s t₀ .holders) × Going halted stepped (Fine (greatestCount s)) (most (view s t₀)) (begun (view s t₀) x) (state s t e)
+    Table s t × (view s t .holders ≡ view s t₀ .holders)
+    × Going halted stepped (Fine (greatestCount s)) (most (view s t₀)) (begun (view s t₀) x) (state s t e)
 
 abbrev μ-loop : tie.MeasureT-loop
 μ-loop s t₀ x e₀ t e = steps halted stepped (most (view s t₀)) (state s t e)

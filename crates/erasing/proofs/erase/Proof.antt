@@ -17,12 +17,8 @@ holder-of-requires c κs = search needs
 
 drop-root-requires : tie.Need-drop-root-requires
 drop-root-requires c κs =
-    let start = c .before .before .before .before in (
-      start .pre .0,
-      rw (c .before .holder-of .ensures .0)
-          (holder-rooted (greatestCount _) _ _ (start .pre .1 .1) (omega arith)
-          (omega arith)),
-    )
+    let start = c .before .before .before .before in
+    (start .pre .0, rw (c .before .holder-of .ensures .0) (holder-rooted (greatestCount _) _ _ (start .pre .1 .1) (omega arith) (omega arith)))
 
 set-holder-requires : tie.Need-set-holder-requires
 set-holder-requires c κs = search needs
@@ -38,8 +34,7 @@ returns c =
     let x = after-drop-root .before .before .holder-of .ensures .0 in
     let d = after-drop-root .drop-root .ensures in (
       d .0 ∙ ap (λ (y : ℕ). dropped (p .free) (p .cells) y .freed) x ∙ is-erase _ (a .a) .1,
-      said (after (putHolder (a .a) 0) (d .1) (c .before .before .set-holder .ensures))
-          (ap (λ (y : ℕ). putHolder (a .a) 0 (less p y)) x ∙ is-erase p (a .a) .0),
+      said (after (putHolder (a .a) 0) (d .1) (c .before .before .set-holder .ensures)) (ap (λ (y : ℕ). putHolder (a .a) 0 (less p y)) x ∙ is-erase p (a .a) .0),
     )
 
 pub erase-spec : {M : Type 1} → statement M

@@ -78,30 +78,31 @@ share-requires-2 c κs =
 
 set-count-requires : tie.Need-set-count-requires
 set-count-requires c κs =
-    let after-holder-of = c .before .before .before .before .before .before .before .before .before .before .before .before .before .before .before in
+    let after-share2 = c .before .before .before in
+    let after-share = after-share2 .before .before .before .before in
+    let after-holder-of = after-share .before .before .before .before .before .before .before .before in
     let start = after-holder-of .before .before .before in
     let a = start .args in
     let p = view (a .s) (a .t .now) in (
-      c .before .before .before .share2 .ensures .table,
-      (
-        head after-holder-of .cell,
-        omega (arith, count-bound p (start .pre .1 .1 .0) (after-holder-of .holder-of .result)),
-      ),
+      after-share2 .share2 .ensures .table,
+      (head after-holder-of .cell, omega (arith, count-bound p (start .pre .1 .1 .0) (after-holder-of .holder-of .result))),
     )
 
 set-holder-requires : tie.Need-set-holder-requires
 set-holder-requires c κs =
-    let after-next-of = c .before .before .before .before .before .before .before .before .before .before .before .before .before .before .before .before .before in
-    let start = after-next-of .before .before .before .before .before in (
-      c .before .before .before .set-count .ensures .table,
-      (start .pre .1 .0 .0, rw (after-next-of .next-of .ensures .0) (head (after-next-of .before .before) .next)),
-    )
+    let after-set-count = c .before .before .before in
+    let after-share = after-set-count .before .before .before .before .before .before .before .before in
+    let after-next-of = after-share .before .before .before .before .before .before in
+    let start = after-next-of .before .before .before .before .before in
+    (after-set-count .set-count .ensures .table, (start .pre .1 .0 .0, rw (after-next-of .next-of .ensures .0) (head (after-next-of .before .before) .next)))
 
 set-holder-requires-2 : tie.Need-set-holder-requires-2
 set-holder-requires-2 c κs =
-    let after-item-of = c .before .before .before .before .before .before .before .before .before .before .before .before .before .before .before .before .before .before .before in
+    let after-set-holder = c .before .before .before in
+    let after-share = after-set-holder .before .before .before .before .before .before .before .before .before .before .before .before in
+    let after-item-of = after-share .before .before .before .before in
     let start = after-item-of .before .before .before .before .before .before .before in (
-      c .before .before .before .set-holder .ensures .table,
+      after-set-holder .set-holder .ensures .table,
       (start .pre .1 .0 .1, rw (after-item-of .item-of .ensures) (head (after-item-of .before .before .before .before) .item)),
     )
 

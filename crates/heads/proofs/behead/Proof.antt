@@ -44,8 +44,7 @@ release-requires c κs =
       after-set-count .set-count .ensures .table,
       (
         head (after-set-count .before .before .before .before .before .before) .cell,
-        rw (ap (λ (p : Pool). p .free) (after-set-count .set-count .ensures .is))
-            (omega (arith, ranged _ (start .pre .1 .1 .0) .free-top)),
+        rw (ap (λ (p : Pool). p .free) (after-set-count .set-count .ensures .is)) (omega (arith, ranged _ (start .pre .1 .1 .0) .free-top)),
       ),
     )
 

@@ -25,10 +25,7 @@ set-holder-requires c κs =
     let after-share = c .before .before .before in
     let start = after-share .before .before .before .before .before in (
       after-share .share .ensures .table,
-      (
-        start .pre .1 .0 .1,
-        rw (after-share .before .before .holder-of .ensures .0) (holder-high _ _ (start .pre .0) (start .pre .1 .1 .0) _),
-      ),
+      (start .pre .1 .0 .1, rw (after-share .before .before .holder-of .ensures .0) (holder-high _ _ (start .pre .0) (start .pre .1 .1 .0) _)),
     )
 
 same-length : tie.Need-same-length

@@ -5,10 +5,16 @@ use lib.ListN.{length}
 use borrow.Author.Tests.{not-true, not-false}
 use borrow.Author.Needs.{needs}
 use Rattle.table.specs.View.{Table}
-use Rattle.table.specs.SizesLaws.{fits-told, cleared-length}
+use Rattle.table.specs.SizesLaws.{Fits, fits-told, cleared-length}
 use Rattle.setup.specs.SetUpLaws.{refuses, zeroed, headed-table, unlinked, sets-up, made}
 use Rattle.setup.proofs.set_up.Statement.{statement}
 use Rattle.setup.proofs.set_up.Tie as tie
+
+-- past the test: the sizes fit
+fit : (c : tie.Else1) →
+    let a = c .before .before .before .args in
+    Fits (a .n) (length (a .t .now))
+fit c = fits-told _ _ (sym (c .before .fits2 .ensures) ∙ not-false _ (c .if1 .left))
 
 fits-requires : tie.Need-fits-requires
 fits-requires c κs = search needs
@@ -23,21 +29,13 @@ slice-write-t : tie.Need-slice-write-t
 slice-write-t c =
     let else1 = c .before .before .before .before in
     let a = else1 .before .before .before .args in
-    omega (
-      arith,
-      ap length (c .before .before .clear .ensures),
-      cleared-length (a .t .now) (length (a .t .now)) (omega arith),
-      (fits-told (a .n) (length (a .t .now)) (sym (else1 .before .fits2 .ensures) ∙ not-false _ (else1 .if1 .left))) .long,
-    )
+    omega (arith, ap length (c .before .before .clear .ensures), cleared-length (a .t .now) (length (a .t .now)) (omega arith), fit else1 .long)
 
 set-free-requires : tie.Need-set-free-requires
 set-free-requires c κs =
     let else1 = c .before .before .before .before .before in
-    let a = else1 .before .before .before .args in
-    let f = fits-told _ _ (sym (else1 .before .fits2 .ensures) ∙ not-false _ (else1 .if1 .left)) in (
-      subst (Table _) (sym (zeroed (a .t .now) _ (c .before .before .before .clear .ensures))) (headed-table _ _ f),
-      f .some,
-    )
+    let e = zeroed (else1 .before .before .before .args .t .now) _ (c .before .before .before .clear .ensures) in
+    (subst (Table _) (sym e) (headed-table _ _ (fit else1)), fit else1 .some)
 
 link-requires : tie.Need-link-requires
 link-requires c κs =
@@ -49,8 +47,8 @@ link-requires c κs =
 
 same-length : tie.Need-same-length
 same-length c =
-    let else1 = c .before .before .before .before .before .before .before .before .before .before .before .before in
-    c .before .before .link .ensures .table .sized ∙ sym ((fits-told _ _ (sym (else1 .before .fits2 .ensures) ∙ not-false _ (else1 .if1 .left))) .long)
+    let after-set-free = c .before .before .before .before .before .before in
+    c .before .before .link .ensures .table .sized ∙ sym (fit (after-set-free .before .before .before .before .before .before) .long)
 
 returns-2 : tie.Need-returns-2
 returns-2 c =

@@ -50,12 +50,8 @@ loop-less c = search needs
 
 loop-again : tie.Need-loop-again Inv-loop μ-loop
 loop-again c =
-    let i = c .before .before .before .loop .inv in (
-      i .0,
-      copy-step _ _ _ _ _ _ _
-          _ (omega arith) (c .before .before .loop-test .taken) (i .1) (c .before .count-of .ensures .0)
-          (c .one-if-none .ensures),
-    )
+    let i = c .before .before .before .loop .inv in
+    (i .0, copy-step _ _ _ _ _ _ _ _ (omega arith) (c .before .before .loop-test .taken) (i .1) (c .before .count-of .ensures .0) (c .one-if-none .ensures))
 
 cast-result : tie.Need-cast-result Inv-loop μ-loop
 cast-result c = search needs

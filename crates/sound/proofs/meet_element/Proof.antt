@@ -23,9 +23,8 @@ returns c =
 returns-2 : tie.Need-returns-2
 returns-2 c =
     let start = c .before .before .before .before .before .before in
-    let a = start .args in
     no-element _ _ _ _ (start .pre .1) (c .before .before .kind-of .result) 0 (c .before .before .kind-of .ensures)
-    (typed-no (c .before .before .kind-of .result) (a .e .ok) (omega arith)) (omega arith)
+    (typed-no (c .before .before .kind-of .result) (start .args .e .ok) (omega arith)) (omega arith)
 
 elem-of-requires : tie.Need-elem-of-requires
 elem-of-requires c κs =
@@ -56,8 +55,7 @@ returns-3 c =
     let after-follow = c .before .before .before .before .before .before in
     let after-kind-of = after-follow .before .before .before .before .before in
     let start = after-kind-of .before .before .before .before in
-    let a = start .args in
-    some-element _ _ _ _ (start .pre .1) _ _ (after-kind-of .kind-of .ensures) (typed-yes (after-kind-of .kind-of .result) (a .e .ok) (omega arith))
+    some-element _ _ _ _ (start .pre .1) _ _ (after-kind-of .kind-of .ensures) (typed-yes (after-kind-of .kind-of .result) (start .args .e .ok) (omega arith))
     (after-follow .before .before .elem-of .result) _ (after-follow .follow .result) (omega arith) (after-follow .before .before .elem-of .ensures)
     (after-follow .follow .ensures) _ (c .before .before .stow .result) (c .before .before .stow .ensures)
 

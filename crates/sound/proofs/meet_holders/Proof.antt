@@ -57,10 +57,8 @@ loop-again c =
     let t = start .pre .0 in (
       i .0,
       i .1,
-      holders-step _ _ _ _ _ _ (t .measured ∙ sym (i .0))
-          (omega arith) (omega arith) (i .2) (omega arith)
-          _ _ _ (after-follow .before .before .holder-of .ensures .0)
-          (after-follow .follow .ensures) _ _ (c .before .before .stow .ensures),
+      holders-step _ _ _ _ _ _ (t .measured ∙ sym (i .0)) (omega arith) (omega arith) (i .2) (omega arith) _ _ _
+          (after-follow .before .before .holder-of .ensures .0) (after-follow .follow .ensures) _ _ (c .before .before .stow .ensures),
     )
 
 same-length : tie.Need-same-length Inv-loop μ-loop

@@ -35,12 +35,8 @@ loop-holds c =
 take-cell-requires : tie.Need-take-cell-requires Inv-loop μ-loop
 take-cell-requires c κs =
     let start = c .before .before .before .before .before .before .before .before .before .before .before .before in
-    let t = start .pre .0 in (
-      t,
-      taking _ _ _ _ _ (t .measured) (omega arith)
-          (omega arith) (c .before .before .before .loop .inv)
-          (c .before .if1 .taken),
-    )
+    let t = start .pre .0 in
+    (t, taking _ _ _ _ _ (t .measured) (omega arith) (omega arith) (c .before .before .before .loop .inv) (c .before .if1 .taken))
 
 loop-less : tie.Need-loop-less Inv-loop μ-loop
 loop-less c =
@@ -50,9 +46,8 @@ loop-less c =
     let t = start .pre .0 in
     omega (
       arith,
-      less-left (view (a .s) (a .t .now)) _ _ _ _ (t .measured) (omega arith)
-          (omega arith) (then1 .before .before .loop .inv) _ _
-          (then1 .if1 .taken) (c .before .before .take-cell .ensures),
+      less-left (view (a .s) (a .t .now)) _ _ _ _ (t .measured) (omega arith) (omega arith) (then1 .before .before .loop .inv) _ _ (then1 .if1 .taken)
+          (c .before .before .take-cell .ensures),
     )
 
 loop-again : tie.Need-loop-again Inv-loop μ-loop

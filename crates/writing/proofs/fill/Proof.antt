@@ -18,7 +18,11 @@ abbrev μ-loop : tie.MeasureT-loop
 loop-holds : tie.Need-loop-holds Inv-loop μ-loop
 loop-holds c =
     let a = c .args in
-    let z : a .from - a .from ≡ 0 = omega arith in (omega arith, omega arith, paste-zero _ (a .from) (replicate (a .to - a .from) 32) ∙ ap (paste (a .out .now) (a .from) (replicate (a .to - a .from) 32)) (sym z))
+    let z : a .from - a .from ≡ 0 = omega arith in (
+      omega arith,
+      omega arith,
+      paste-zero _ (a .from) (replicate (a .to - a .from) 32) ∙ ap (paste (a .out .now) (a .from) (replicate (a .to - a .from) 32)) (sym z),
+    )
 
 slice-write-out : tie.Need-slice-write-out Inv-loop μ-loop
 slice-write-out c =
@@ -33,11 +37,8 @@ loop-less c = search needs
 
 loop-again : tie.Need-loop-again Inv-loop μ-loop
 loop-again c =
-    let a = c .before .before .args in (
-      omega arith,
-      omega arith,
-      fill-step _ _ (a .from) (a .to) (c .before .loop .i) (omega arith) (omega arith) (omega arith) (c .before .loop .inv .2),
-    )
+    let a = c .before .before .args in
+    (omega arith, omega arith, fill-step _ _ (a .from) (a .to) (c .before .loop .i) (omega arith) (omega arith) (omega arith) (c .before .loop .inv .2))
 
 same-length : tie.Need-same-length Inv-loop μ-loop
 same-length c =

@@ -90,7 +90,7 @@ returns-2 c =
     let after-parse = after-enum-told .before .before in
     let a = after-parse .before .before .before .before .before .before .before .before .args in
     let k = a .n - 0 in
-    speaks-command (take (a .used) (a .table .now)) _ (a .table .now) _ (a .texts .now) (a .n) k (malformed) (c .before .before .do-nothing2 .result)
+    speaks-command (take (a .used) (a .table .now)) _ (a .table .now) _ (a .texts .now) (a .n) k malformed (c .before .before .do-nothing2 .result)
     (omega arith) (after-parse .before .before .if1 .left)
     (sym (ap (meant (take k (a .line .now))) (after-enum-told .enum-told .given .1)) ∙ after-parse .parse .ensures)
     (speaks _ _ _ _ _ (c .before .before .do-nothing2 .ensures))

@@ -107,7 +107,8 @@ cast-without-fill c =
 without-fill-requires : tie.Need-without-fill-requires
 without-fill-requires c κs =
     let else1 = c .before .before in
-    let start = else1 .before .before .before .before .before .before .before .before .before .before .before .before .before .before .before .before .before .before .before in
+    let after-write = else1 .before .before .before .before .before .before .before .before .before .before .before in
+    let start = after-write .before .before .before .before .before .before .before .before in
     count-room (list start) (old start) _ _ (text else1 .1) _ (text else1 .0)
 
 slice-write-texts : tie.Need-slice-write-texts

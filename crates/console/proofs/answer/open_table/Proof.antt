@@ -53,10 +53,11 @@ returns-2 c =
     let start = else1 .before .before .before in
     let a = start .args in
     let e = sym (else1 .before .fits2 .ensures) ∙ not-false _ (else1 .if1 .left) in
-    let f = fits-told (a .n) (tableWords (a .n)) e in
-    let z : tableWords (a .n) - 0 ≡ tableWords (a .n) = omega arith in
-    let k : length (take (tableWords (a .n) - 0) (a .table .now)) ≡ tableWords (a .n) = length-take-le (tableWords (a .n) - 0) (a .table .now) (omega (arith, f .few, start .pre .0)) ∙ z in
-    opens (take (a .used) (a .table .now)) (take (tableWords (a .n) - 0) (a .table .now)) (c .before .before .set-up .last .0) _ (a .n) e k
+    let w = tableWords (a .n) in
+    let f = fits-told (a .n) w e in
+    let z : w - 0 ≡ w = omega arith in
+    let k : length (take (w - 0) (a .table .now)) ≡ w = length-take-le (w - 0) (a .table .now) (omega (arith, f .few, start .pre .0)) ∙ z in
+    opens (take (a .used) (a .table .now)) (take (w - 0) (a .table .now)) (c .before .before .set-up .last .0) _ (a .n) e k
     (c .before .before .set-up .kept .0 ∙ k) (c .before .before .set-up .ensures)
 
 pub open-table-spec : {M : Type 1} → statement M

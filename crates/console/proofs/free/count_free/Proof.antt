@@ -40,8 +40,7 @@ loop-again : tie.Need-loop-again Inv-loop μ-loop
 loop-again c =
     let turn = c .before .before .before in (
       turn .loop .inv .0,
-      counts-one _ _ _ _ (turn .loop .inv .1)
-          (omega arith) (c .one-if-free .ensures .0 ∙ ap (λ (k : ℕ). same k 0) (c .before .count-of .ensures .0))
+      counts-one _ _ _ _ (turn .loop .inv .1) (omega arith) (c .one-if-free .ensures .0 ∙ ap (λ (k : ℕ). same k 0) (c .before .count-of .ensures .0))
           (c .one-if-free .ensures .1),
       omega arith,
     )

@@ -34,8 +34,7 @@ returns : tie.Need-returns
 returns c =
     let after-run = c .before .before .before .before .before in
     let start = after-run .before .before .before .before .before .before .before in
-    let a = start .args in
-    says (a .table .now) _ _ _ _ _ (start .pre)
+    says (start .args .table .now) _ _ _ _ _ (start .pre)
     (record {
       table = after-run .run .ensures .table;
       answer = ap (λ (o : Outcome). o .answer) (after-run .run .ensures .outcome);

@@ -24,8 +24,7 @@ copy-requires c κs =
       start .pre .0,
       rw (c .before .holder-of .ensures .0)
           (subst (λ m. Copies m p (holder p (a .a))) (start .pre .0 .held)
-          (room-copies p _ _ (start .pre .1 .1 .0) (omega arith) (start .pre .1 .1 .1 .0)
-          (start .pre .1 .1 .1 .1))),
+          (room-copies p _ _ (start .pre .1 .1 .0) (omega arith) (start .pre .1 .1 .1 .0) (start .pre .1 .1 .1 .1))),
     )
 
 set-holder-requires : tie.Need-set-holder-requires

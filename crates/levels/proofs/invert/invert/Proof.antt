@@ -18,11 +18,8 @@ holder-of-requires c κs = search needs
 
 turn-requires : tie.Need-turn-requires
 turn-requires c κs =
-    let start = c .before .before .before .before in (
-      start .pre .0,
-      rw (c .before .holder-of .ensures .0)
-          (own-turns _ _ (start .pre .1 .1 .0) (omega arith) (start .pre .1 .1 .1)),
-    )
+    let start = c .before .before .before .before in
+    (start .pre .0, rw (c .before .holder-of .ensures .0) (own-turns _ _ (start .pre .1 .1 .0) (omega arith) (start .pre .1 .1 .1)))
 
 set-holder-requires : tie.Need-set-holder-requires
 set-holder-requires c κs =

@@ -1,12 +1,11 @@
 -- `levels::join::concatenate` meets its contract.
 use Prim.Native.Nat.{ℕ}
-use mathlib.Core.Path.{_≡_, ap, sym, _∙_}
+use mathlib.Core.Path.{ap, ap₂, sym, _∙_}
 use mathlib.Core.Logic.{_≢_}
 use native.Mathlib.Omega.{arith}
 use lib.ListN.{length}
 use borrow.Author.Needs.{needs}
 use Rattle.cells.specs.Range.{holder-high}
-use Rattle.pool.specs.Operations.{lastOf}
 use Rattle.pool.specs.Pool.{holder}
 use Rattle.table.specs.Fields.{putNext, putHolder}
 use Rattle.table.specs.View.{view}
@@ -32,13 +31,8 @@ holder-of-requires-2 c κs = search needs
 set-holder-requires : tie.Need-set-holder-requires
 set-holder-requires c κs =
     let after-holder-of = c .before .before .before .before .before in
-    let start = after-holder-of .before .before .before in (
-      start .pre .0,
-      (
-        start .pre .1 .0 .0,
-        rw (after-holder-of .holder-of .ensures .0) (holder-high _ _ (start .pre .0) (start .pre .1 .1 .0) _),
-      ),
-    )
+    let start = after-holder-of .before .before .before in
+    (start .pre .0, (start .pre .1 .0 .0, rw (after-holder-of .holder-of .ensures .0) (holder-high _ _ (start .pre .0) (start .pre .1 .1 .0) _)))
 
 set-holder-requires-2 : tie.Need-set-holder-requires-2
 set-holder-requires-2 c κs = search needs
@@ -93,7 +87,7 @@ returns-3 c =
     let na : holder p (a .a) ≢ 0 = λ q. else2 .if2 .left (else2 .before .holder-of2 .ensures .0 ∙ q) in
     let nb : holder p (a .b) ≢ 0 = λ q. else1 .if1 .left (ey ∙ q) in
     let el = start .pre .1 .1 .1 nb .1 na in
-    let e : putHolder (a .b) 0 (putNext (a .last) (else1 .before .holder-of .result) p) ≡ putHolder (a .b) 0 (putNext (lastOf (length (p .cells)) (p .cells) (holder p (a .a))) (holder p (a .b)) p) = λ i. putHolder (a .b) 0 (putNext (el i) (ey i) p) in
+    let e = ap₂ (λ (x y : ℕ). putHolder (a .b) 0 (putNext x y p)) el ey in
     said (after (putHolder (a .b) 0) (after-set-next .set-next .ensures) (c .before .before .set-holder3 .ensures)) (e ∙ join-last _ _ _ na nb)
 
 pub concatenate-spec : {M : Type 1} → statement M

@@ -1,13 +1,12 @@
 -- `levels::walk::length` meets its contract.
 use mathlib.Core.Path.{_≡_}
-use Prim.Native.Nat.{_+_}
+use Prim.Native.Nat.{_+_, _≤_}
 use native.Mathlib.Omega.{arith}
 use borrow.Author.Needs.{needs}
 use lib.ListN.{length}
 use Rattle.table.specs.View.{view, IsCell}
 use Rattle.pool.specs.Level.{Left, Onward, onward, none-left, span-le, all-left}
 use Rattle.pool.specs.Operations.{span, lengthOf}
-use Rattle.pool.specs.Pool.{holder}
 use Rattle.levels.proofs.walk.length.Statement.{statement}
 use Rattle.levels.proofs.walk.length.Tie as tie
 
@@ -28,6 +27,12 @@ cell : (c : tie.In-loop Inv-loop μ-loop) →
     IsCell (start .args .s) (c .before .loop .x)
 cell c = record { low = here c .inside .0; high = omega (arith, here c .inside .1) }
 
+-- the level is no longer than the pool
+short : (start : tie.Start Inv-loop μ-loop) →
+    let p = view (start .args .s) (start .args .t .now) in
+    lengthOf p (start .args .a) ≤ length (p .cells)
+short start = span-le _ _ _
+
 holder-of-requires : tie.Need-holder-of-requires Inv-loop μ-loop
 holder-of-requires c κs = search needs
 
@@ -35,9 +40,7 @@ loop-holds : tie.Need-loop-holds Inv-loop μ-loop
 loop-holds c = rw (c .holder-of .ensures .0) (all-left _ _ (c .before .before .pre .1 .1), omega arith)
 
 add-n : tie.Need-add-n Inv-loop μ-loop
-add-n c =
-    let a = c .before .before .before .before .args in
-    omega (arith, here c .longer, span-le (length (view (a .s) (a .t .now) .cells)) (view (a .s) (a .t .now) .cells) (holder (view (a .s) (a .t .now)) (a .a)))
+add-n c = omega (arith, here c .longer, short (c .before .before .before .before))
 
 next-of-requires : tie.Need-next-of-requires Inv-loop μ-loop
 next-of-requires c κs =
@@ -53,18 +56,8 @@ loop-again c = rw (c .next-of .ensures .0) (here (c .before) .rest, omega (arith
 returns : tie.Need-returns Inv-loop μ-loop
 returns c =
     let start = c .before .before .before .before in
-    let a = start .args in
-    let e = c .before .loop .inv .1 in
-    let z = none-left (view (a .s) (a .t .now) .cells) (c .before .loop .x) (c .loop-test .left) .0 in (
-      omega (arith, e, z),
-      omega (
-        arith,
-        e,
-        z,
-        span-le (length (view (a .s) (a .t .now) .cells)) (view (a .s) (a .t .now) .cells) (holder (view (a .s) (a .t .now)) (a .a)),
-        start .pre .0 .measured,
-      ),
-    )
+    let z = none-left (view (start .args .s) (start .args .t .now) .cells) (c .before .loop .x) (c .loop-test .left) .0 in
+    (omega (arith, z), omega (arith, z, short start))
 
 pub length-spec : {M : Type 1} → statement M
 length-spec =

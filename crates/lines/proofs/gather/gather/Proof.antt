@@ -42,8 +42,7 @@ loop-again : tie.Need-loop-again Inv-loop μ-loop
 loop-again c =
     let then1 = c .before .before .before .before .before .before in
     let turn = then1 .before .before in (
-      gathers-more _ _ _ _ _ _
-          _ (turn .loop .inv .0) (then1 .if1 .taken) (c .before .before .before .take-byte .ensures) (c .if2 .left),
+      gathers-more _ _ _ _ _ _ _ (turn .loop .inv .0) (then1 .if1 .taken) (c .before .before .before .take-byte .ensures) (c .if2 .left),
       c .before .before .before .take-byte .kept .0 ∙ turn .loop .inv .1,
     )
 

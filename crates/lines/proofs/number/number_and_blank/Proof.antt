@@ -1,13 +1,19 @@
 -- `lines::number::number_and_blank` meets its contract.
-use mathlib.Core.Path.{sym, ap, _∙_}
+use mathlib.Core.Path.{_≡_, sym, ap, _∙_}
 use borrow.Author.Tests.{ne-eqb}
-use lib.ListN.{getD}
+use lib.ListN.{getD, drop}
 use borrow.Author.Needs.{needs}
 use Rattle.lines.specs.Meaning.{found}
-use Rattle.lines.specs.Numbers.{blank, parted}
+use Rattle.lines.specs.Numbers.{blank, number, numberIn, parted}
 use Rattle.lines.specs.NumberLaws.{behind-blank, behind-other, behind-nothing}
 use Rattle.lines.proofs.number.number_and_blank.Statement.{statement}
 use Rattle.lines.proofs.number.number_and_blank.Tie as tie
+
+-- the number that is there
+there : (c : tie.After-v) →
+    let a = c .before .before .before .before .args in
+    number (c .v .given .0 .0) (drop (c .v .given .0 .1 .0) (a .line .now)) ≡ numberIn (drop (a .at) (a .line .now))
+there c = sym (ap (found _) (c .v .given .1)) ∙ c .before .before .number-at .ensures
 
 number-at-requires : tie.Need-number-at-requires
 number-at-requires c κs = search needs
@@ -31,7 +37,7 @@ returns-2 : tie.Need-returns-2
 returns-2 c =
     let after-v = c .before .before .before .before in
     behind-blank _ (after-v .v .given .0 .0) (after-v .v .given .0 .1 .0) (c .before .before .if1 .taken) (c .if2 .taken)
-    ∙ ap parted (sym (ap (found _) (after-v .v .given .1)) ∙ after-v .before .before .number-at .ensures)
+    ∙ ap parted (there after-v)
 
 returns-3 : tie.Need-returns-3
 returns-3 c =
@@ -39,13 +45,13 @@ returns-3 c =
     let start = after-v .before .before .before .before in
     behind-other _ (after-v .v .given .0 .0) (after-v .v .given .0 .1 .0) (c .before .before .if1 .taken)
     (ne-eqb (getD (start .args .line .now) (after-v .v .given .0 .1 .0) 0) blank (c .if2 .left))
-    ∙ ap parted (sym (ap (found _) (after-v .v .given .1)) ∙ after-v .before .before .number-at .ensures)
+    ∙ ap parted (there after-v)
 
 returns-4 : tie.Need-returns-4
 returns-4 c =
     let after-v = c .before .before in
     behind-nothing _ (after-v .v .given .0 .0) (after-v .v .given .0 .1 .0) (c .if1 .left)
-    ∙ ap parted (sym (ap (found _) (after-v .v .given .1)) ∙ after-v .before .before .number-at .ensures)
+    ∙ ap parted (there after-v)
 
 pub number-and-blank-spec : {M : Type 1} → statement M
 number-and-blank-spec =

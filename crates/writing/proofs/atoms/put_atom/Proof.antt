@@ -25,8 +25,7 @@ same-length c = search needs
 
 returns : tie.Need-returns
 returns c =
-    let a = c .before .before .args in
-    rw (one-digit _ (c .if1 .taken)) (put-one _ _ _ (48 + a .v) (omega (arith, ap length (one-digit _ (c .if1 .taken)))) (omega arith))
+    rw (one-digit _ (c .if1 .taken)) (put-one _ _ _ (48 + c .before .before .args .v) (omega (arith, ap length (one-digit _ (c .if1 .taken)))) (omega arith))
 
 count-requires : tie.Need-count-requires
 count-requires c κs = search needs

@@ -12,7 +12,8 @@ use Rattle.writing.proofs.atoms.work_out.Statement.{statement}
 use Rattle.writing.proofs.atoms.work_out.Tie as tie
 
 abbrev Inv-loop : tie.InvT-loop
-Inv-loop v n store₀ left₀ i₀ store left i = (i ≤ digitsMost) × (length store ≡ digitsMost) × (lastDigits digitsMost left₀ ≡ lastDigits i left ++ drop i store)
+Inv-loop v n store₀ left₀ i₀ store left i =
+    (i ≤ digitsMost) × (length store ≡ digitsMost) × (lastDigits digitsMost left₀ ≡ lastDigits i left ++ drop i store)
 
 abbrev μ-loop : tie.MeasureT-loop
 μ-loop v n store₀ left₀ i₀ store left i = i
@@ -57,8 +58,7 @@ returns c =
     let turn = c .before in
     let z : turn .loop .i ≡ 0 = omega arith in (
       turn .loop .inv .1,
-      worked-out _ _ _ _ (omega arith) (turn .before .pre .0) (omega arith) (omega arith) refl
-          (turn .loop .inv .2 ∙ none-left _ (turn .loop .left) _ z),
+      worked-out _ _ _ _ (omega arith) (turn .before .pre .0) (omega arith) (omega arith) refl (turn .loop .inv .2 ∙ none-left _ (turn .loop .left) _ z),
     )
 
 pub work-out-spec : {M : Type 1} → statement M

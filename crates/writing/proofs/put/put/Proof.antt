@@ -51,8 +51,7 @@ put-step-requires c κs =
     let g = turn .loop .inv in (
       q .0,
       (
-        ready _ _ _ _ _ (g .walks) (omega arith) _ (q .0 .measured) (f .short)
-            (shallow _ _ _ _ _ _ (turn .loop .w) g (omega arith) (f .fits)),
+        ready _ _ _ _ _ (g .walks) (omega arith) _ (q .0 .measured) (f .short) (shallow _ _ _ _ _ _ (turn .loop .w) g (omega arith) (f .fits)),
         (
           roomy _ _ _ _ (turn .loop .out) (turn .loop .after) (turn .loop .w) g (omega arith) (f .fits) (f .size),
           omega (arith, length-set (start .args .out .now) 0 40),

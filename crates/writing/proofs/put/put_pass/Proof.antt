@@ -24,8 +24,7 @@ put-atom-requires c κs = (omega (arith, ap (λ (v : ℕ). length (numeral v)) (
 part-requires : tie.Need-part-requires
 part-requires c κs =
     let after-pass = c .before .before .before .before .before in
-    let a = after-pass .before .before .before .before .args in
-    let q = pass-size _ (a .w) (after-pass .pass .result) (after-pass .pass .ensures) in
+    let q = pass-size _ (after-pass .before .before .before .before .args .w) (after-pass .pass .result) (after-pass .pass .ensures) in
     (omega (arith, q .0), omega (arith, q .1), omega (arith, c .before .before .before .put-atom .ensures .room))
 
 same-length : tie.Need-same-length
