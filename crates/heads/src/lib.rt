@@ -1,7 +1,7 @@
 // What happens at the head of a list: an element put before it, taken off, told; the list borrowed. Each in constant time.
 ghost use mathlib.Core.Path.{_≡_};
 ghost use mathlib.Core.Logic.{_≢_};
-ghost use Prim.Native.Nat.{_≤_, _<_};
+ghost use Prim.Native.Nat.{_<_};
 ghost use Rattle.pool.specs.Pool.{countOf, holder, Sound};
 ghost use Rattle.pool.specs.Operations.{pfa, pfl, decap, borrow};
 ghost use Rattle.heads.specs.Tells.{Tells};

@@ -1,5 +1,4 @@
 // The bytes of a reply. Each function stores from a place on and gives the place behind what it stored.
-ghost use mathlib.Core.Path.{_≡_};
 ghost use mathlib.Core.List.{[], _∷_};
 ghost use Prim.Native.Nat.{_+_, _*_, _≤_, _<_};
 ghost use lib.ListN.{length};

@@ -1,6 +1,6 @@
 // The second pass over a text that is a list and has room: every element gets its cell where it begins.
 ghost use mathlib.Core.Path.{_≡_};
-ghost use Prim.Native.Nat.{_+_, _-_, _≤_, _<_};
+ghost use Prim.Native.Nat.{_-_, _≤_, _<_};
 ghost use lib.ListN.{length};
 ghost use Rattle.lists.specs.Lst.{extent};
 ghost use Rattle.pool.specs.Operations.{read};
@@ -16,11 +16,15 @@ use crate::digits;
 use crate::hook;
 use crate::hook::Hook;
 use crate::next;
+use scan::limits::Level;
 use scan::step::Place;
 use table::Shape;
 
+// The cell of each open list, by its level; the outermost has none.
+type Lists = [u32; Level::MOST as usize];
+
 // The lists of the levels above `to` end: each gets null where its next cell would be named.
-fn shut(s: Shape, t: &mut [u32], h: usize, k: Hook, lists: &[u32; 200], from: u32, to: u32) -> Hook
+fn shut(s: Shape, t: &mut [u32], h: usize, k: Hook, lists: &Lists, from: u32, to: u32) -> Hook
     requires { ⌜ Table s (now t) ⌝ }
     requires { ⌜ h < holderCount s ⌝ }
     requires { ⌜ (1 ≤ from) × (from ≤ levels) × (to ≤ from) ⌝ }
@@ -44,7 +48,7 @@ fn add(
     t: &mut [u32],
     h: usize,
     k: Hook,
-    lists: &mut [u32; 200],
+    lists: &mut Lists,
     p: Place,
     q: Place,
     v: u32,
@@ -82,7 +86,7 @@ pub fn build(s: Shape, t: &mut [u32], h: usize, text: &[u8])
     requires { ⌜ extent (listIn (now text)) ≤ frees (view s (now t) .cells) ⌝ }
     ensures { λ r. ⌜ Shows s (now (t .exit)) (read (view s (now (t .entry))) h (listIn (now (text .entry)))) ⌝ }
 {
-    let mut lists = [0; 200];
+    let mut lists = [0; Level::MOST as usize];
     let mut k = Hook { cell: 0, inside: 0 };
     let mut p = Place::opened();
     while p.depth > 0 {

@@ -1,6 +1,6 @@
 // Octal digits: one, and a run of them, eight bytes at a time.
 ghost use mathlib.Core.Path.{_≡_};
-ghost use Prim.Native.Nat.{_+_, _≤_, _^_, _<_};
+ghost use Prim.Native.Nat.{_+_, _≤_, _<_};
 ghost use lib.ListN.{length, drop};
 ghost use Rattle.text.specs.ListText.{isDigit};
 ghost use Rattle.scan.specs.Runs.{digitRun, bytesAt, Bytes, word};

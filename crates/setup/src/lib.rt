@@ -1,6 +1,5 @@
 // The call that sets up a pool: every cell free, each followed by the next.
 ghost use mathlib.Core.Path.{_≡_};
-ghost use Rattle.pool.specs.Pool.{Pool};
 ghost use Rattle.pool.specs.Operations.{laid};
 ghost use Rattle.table.specs.Fields.{celled};
 ghost use Rattle.table.specs.View.{view, Table, Shows};

@@ -1,6 +1,6 @@
 // The only code that knows where the words of a table lie. Every function above goes by the pool that the table shows.
 ghost use mathlib.Core.Path.{_≡_};
-ghost use Prim.Native.Nat.{_+_, _*_, _^_, _≤_, _<_};
+ghost use Prim.Native.Nat.{_^_, _≤_, _<_};
 ghost use Rattle.pool.specs.Pool.{at, kindOf, elemOf, countOf, nextOf, holder};
 ghost use Rattle.table.specs.Fields.{field, cell, putField, putCell, putCount, putNext, putFree, putHolder};
 ghost use lib.ListN.{length};

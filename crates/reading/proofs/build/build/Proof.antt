@@ -5,6 +5,7 @@ use native.Mathlib.Omega.{arith}
 use borrow.Author.Needs.{needs}
 use lib.ListN.{length, drop, length-replicate}
 use Rattle.scan.specs.Runs.{numeral}
+use Rattle.text.specs.Limits.{levels}
 use Rattle.reading.specs.Accepting.{Amid}
 use Rattle.reading.specs.Pass.{Pass}
 use Rattle.reading.specs.PassLaws.{begins, over, amid, adding, on}
@@ -32,7 +33,7 @@ opened-requires c κs = search needs
 loop-holds : tie.Need-loop-holds Inv-loop μ-loop
 loop-holds c =
     let start = c .before .before .before in
-    rw (c .opened .ensures) (begins (start .args .h) (start .pre .1 .1 .1 .0) (start .pre .0) (start .pre .1 .1 .0) (start .pre .1 .1 .1 .1) _ (length-replicate {A = ℕ} 200 0))
+    rw (c .opened .ensures) (begins (start .args .h) (start .pre .1 .1 .1 .0) (start .pre .0) (start .pre .1 .1 .0) (start .pre .1 .1 .1 .1) _ (length-replicate {A = ℕ} levels 0))
 
 number-at-requires : tie.Need-number-at-requires Inv-loop μ-loop
 number-at-requires c κs = numbered (amidst c)
