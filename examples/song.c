@@ -1,10 +1,10 @@
 /*
  * song.c: a song from text to playing to free cells, over include/tabeshilo.h. Run it with examples/run.
  *
- * A marker is an atom, a section is a list of markers, a song is a list of sections. The song here comes in as three
- * sections (a verse, a bridge and a chorus), is arranged so that the chorus comes four times but is stored once, is
- * played without being used up, and is erased. Every answer is looked at; the first that is not the one expected ends
- * the program with status 1.
+ * Markers are atoms; a section has markers, and a song has sections. The song here comes in as three sections (a verse,
+ * a bridge and a chorus), is arranged so that the chorus is heard four times from the same cells, is played without
+ * being used up, and is erased. Every answer is looked at; the first that is not the one expected ends the program with
+ * status 1.
  */
 #include <stdint.h>
 #include <stdio.h>
