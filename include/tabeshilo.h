@@ -33,10 +33,10 @@
  *
  * LISTS
  *
- * An atom is a whole number from 0 to 2^32 - 1. A list is a finite sequence of elements, each an atom or a list.
- * The list with no element is the null list. A list's own elements, without what is in those that are lists, are its
- * main level, and their number is its length. Its extent is the number of cells that it takes up unshared: its length,
- * plus the extents of the elements that are lists.
+ * Atoms are the numbers of 32 bits, 0 to 2^32 - 1. A list has elements in a fixed order, and each of them is an atom or
+ * again a list. The list with no element is the null list. A list's own elements, without what is in those that are
+ * lists, are its main level, and their number is its length. Its extent is the number of cells that it takes up
+ * unshared: one for each of its elements, and the extent of each element that is a list.
  *
  *
  * THE TABLE
@@ -44,34 +44,38 @@
  * A pool of N cells, 1 <= N <= TAB_CELLS, is a table of exactly TAB_TABLE_WORDS(N) words in the machine's byte order:
  *
  *   word 0                           N
- *   word 1                           the first free cell
+ *   word 1                           the cell that the free chain starts with
  *   words 2 to 65                    holders 0 to 63: each names the first cell of a list, or is 0 for the null list
- *   words 66 + 4(c-1) and 3 more     cell c, for c from 1 to N: type T, element E, count R, successor S
+ *   words 66 + 4(c-1) and 3 more     cell c, for c from 1 to N: its words T, E, R and S
  *
- * T is 0 if E is an atom, 1 if E names a list. S names the next cell of the same list. The number 0 names the null
- * list or ends a chain. R is 0 in a free cell; in a live cell it is the number of holders and live cells that name
- * the cell. Free cells are chained by S from word 1. T and E of a free cell have no meaning and stay as they were.
+ * T, the type, is 0 if the element E is an atom, 1 if E names a list. S, the successor, names the next cell of the same
+ * list. 0 stands for the null list, and for no further cell. R, the count, is 0 in a free cell; in a live cell it says
+ * how often the cell is named: by holders, and by S and list elements of live cells. Free cells are chained by S from
+ * word 1; their T and E mean nothing and stay as they were.
  *
- * A caller may look at all of this. A caller who changes it must leave the table sound: the chain from word 1 holds
- * every free cell once and no live cell, and ends in 0; every live cell has T 0 or 1; every S and every list element
- * of a live cell, and every holder, is 0 or a live cell; every R is right; no live cell reaches itself. Each call that
- * works on a table checks this first and answers TAB_UNSOUND, and changes nothing in the table, if it does not hold.
+ * A caller may look at all of this. A caller who changes it must leave the table sound: going by S from word 1 one
+ * meets each free cell once, meets no other, and comes to 0; T is 0 or 1 in live cells; a holder, and an S or a list
+ * element of a live cell, that is not 0 names a live cell; every R is right; and no way along S and list elements leads
+ * from a live cell back to it. tab_run, tab_read and tab_write look for this and otherwise answer TAB_UNSOUND and leave
+ * the table alone. Some answers come before: TAB_TABLE_SIZE and TAB_WORK_SPACE in all three, then TAB_SCRIPT and
+ * TAB_RESULTS in tab_run, TAB_HOLDER, TAB_TEXT_SIZE and TAB_END in tab_read, TAB_HOLDER in tab_write.
  *
  *
  * THE WORK SPACE
  *
  * A call on a table of N cells is lent TAB_WORK_WORDS(N) = 2N words or more to work in. Their content does not matter.
  * After the answers TAB_TABLE_SIZE to TAB_RESULTS, TAB_TEXT_SIZE and TAB_END, and after TAB_HOLDER from tab_read or
- * tab_write, the work space is untouched. After every other answer, TAB_DONE among them, its first 2N words are 0 and
- * the rest is untouched.
+ * tab_write, the work space is untouched. Any other answer, TAB_DONE included, leaves the first 2N words cleared to 0
+ * and what is lent behind them as it was.
  *
  *
  * TEXT
  *
- * ASCII, in records of 72 bytes. A list is "(", its elements parted by ",", and ")". An atom is 1 to 11 octal digits
- * of a value below 2^32. There are no blanks inside. The list starts with the first byte and runs on across records
- * with nothing between. After its last ")" the rest of that record is blank (0x20). Records after that one are not
- * looked at. Text has at most TAB_TEXT bytes and lists at most TAB_LEVELS levels, the outermost counted.
+ * ASCII, in records of 72 bytes. A list is written as its elements between "(" and ")", with "," between two of them;
+ * an atom as at most 11 octal digits, at least one, of a value below 2^32. The first byte is the list's "(". Where a
+ * record is full the text goes on in the next, even inside an atom. Blanks (0x20) stand nowhere but behind the last
+ * ")", where they fill its record; the records behind that one may hold anything. Text has at most TAB_TEXT bytes and
+ * lists at most TAB_LEVELS levels, the outermost counted.
  */
 #ifndef TABESHILO_H
 #define TABESHILO_H
@@ -109,22 +113,22 @@ enum {
     TAB_DONE = 0,         /* the call did what it was asked to do */
     TAB_TABLE_SIZE = 1,   /* N is not 1 to 4,000, or the table has not 66 + 4N words */
     TAB_WORK_SPACE = 2,   /* fewer than 2N words of work space were lent */
-    TAB_SCRIPT = 3,       /* the script is not a multiple of four words, or has over 4,096 operations */
+    TAB_SCRIPT = 3,       /* the script's length is no multiple of 4, or it has over 4,096 operations */
     TAB_RESULTS = 4,      /* fewer than two result words per operation were lent */
     TAB_UNSOUND = 5,      /* the table is not sound */
     TAB_CODE = 6,         /* an operation's code is not 1 to 11 */
     TAB_HOLDER = 7,       /* a holder that is used has a number over 63 */
     TAB_SAME = 8,         /* a = b in an operation that uses both */
-    TAB_NULL = 9,         /* a is null in DECAP, ADV or FIRST */
-    TAB_OCCUPIED = 10,    /* b is not null in DECAP, ADV, BORROW or CINV; or the holder to read into is not */
+    TAB_NULL = 9,         /* DECAP, ADV or FIRST of a null list */
+    TAB_OCCUPIED = 10,    /* a holder that is to get a list has one: b of DECAP, ADV, BORROW, CINV, or tab_read's */
     TAB_SHARED = 11,      /* DECAP: the first cell has a count over 1; INV: some cell of a's main level has;
                              CONC: the same, when b is not null */
     TAB_NO_ROOM = 12,     /* too few free cells: PFA and PFL need 1, CINV the length of a, reading the list's extent */
-    TAB_TEXT_SIZE = 13,   /* the text is not a multiple of 72 bytes, or is over 65,520 bytes */
+    TAB_TEXT_SIZE = 13,   /* the text's length is over 65,520 bytes or no multiple of 72 */
     TAB_END = 14,         /* the text has 0 bytes */
-    TAB_NOT_A_LIST = 15,  /* a character that the text form does not allow there, or text that runs out */
-    TAB_ATOM = 16,        /* a twelfth digit, or an eleventh that makes the value 2^32 or more */
-    TAB_DEEP = 17,        /* a "(" that opens level 201 */
+    TAB_NOT_A_LIST = 15,  /* a byte that may not stand where it is, or a text that ends before its list does */
+    TAB_ATOM = 16,        /* an atom that goes on to a twelfth digit, or whose eleventh takes it past 2^32 - 1 */
+    TAB_DEEP = 17,        /* a "(" of level 201 where a "(" may stand */
     TAB_OUTPUT = 18       /* the output cannot take all characters of the list */
 };
 
@@ -153,15 +157,15 @@ uint32_t tab_set_up(uint32_t *table, size_t words, uint32_t cells);
  * PFA uses a and v; ERASE, INV, FIRST and LENGTH use a alone; all others use a and b.
  */
 enum {
-    TAB_PFA = 1,    /* prefix atom v to list a */
-    TAB_PFL = 2,    /* prefix list b to list a as one element; b becomes null */
-    TAB_DECAP = 3,  /* the first element of a comes off: a list goes to b, an atom to the result */
+    TAB_PFA = 1,    /* puts atom v in front of list a */
+    TAB_PFL = 2,    /* puts list b in front of list a, as one element; holder b is null then */
+    TAB_DECAP = 3,  /* takes the first element off list a and frees its cell; if it is a list, holder b gets it */
     TAB_ADV = 4,    /* the same for a and b alone: whoever else holds the old list keeps it whole */
-    TAB_BORROW = 5, /* b becomes list a too, shared */
-    TAB_ERASE = 6,  /* a becomes null; cells that nobody holds any more are freed */
-    TAB_INV = 7,    /* list a is reversed in its own cells */
-    TAB_CINV = 8,   /* b becomes a reversed copy of list a's main level; elements that are lists are shared */
-    TAB_CONC = 9,   /* list b is joined after list a in a's own cells; b becomes null */
+    TAB_BORROW = 5, /* holder b gets list a too, in the same cells */
+    TAB_ERASE = 6,  /* empties holder a; cells that nobody holds any more are freed */
+    TAB_INV = 7,    /* reverses list a's main level in place; no cell is taken or freed */
+    TAB_CINV = 8,   /* holder b gets a reversed copy of list a's main level; elements that are lists are shared */
+    TAB_CONC = 9,   /* makes list b the end of list a; no cell is taken or freed, and holder b is null then */
     TAB_FIRST = 10, /* tells the first element of list a */
     TAB_LENGTH = 11 /* tells the number of elements of list a */
 };
@@ -179,8 +183,8 @@ enum {
  *
  * table, table_words       the pool, changed by the operations
  * work, work_words         work space
- * script, script_words     four words an operation: code, a, b, v; words that the operation does not use are not
- *                          looked at
+ * script, script_words     for each operation four words: its code, a, b and v, of which those without a use may hold
+ *                          anything
  * results, results_words   two words for each operation done: kind and value
  *
  * Answers TAB_TABLE_SIZE, TAB_WORK_SPACE, TAB_SCRIPT, TAB_RESULTS and TAB_UNSOUND in this order, before anything is
@@ -194,8 +198,8 @@ tab_outcome tab_run(uint32_t *table, size_t table_words, uint32_t *work, size_t 
                     size_t script_words, uint32_t *results, size_t results_words);
 
 /*
- * Reads the list at the start of a text into a holder that is null. New cells come off the free chain in the order in
- * which their elements begin in the text.
+ * Reads the list at the start of a text into a holder that is null. From left to right, each element takes the head of
+ * the free chain where it begins.
  *
  * table, table_words   the pool
  * work, work_words     work space
