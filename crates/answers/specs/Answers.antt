@@ -33,7 +33,7 @@ CODE = 6
 abbrev pub HOLDER : ℕ
 HOLDER = 7
 
--- a = b where both are used
+-- the operation uses a and b, and they are equal
 abbrev pub SAME : ℕ
 SAME = 8
 
@@ -49,7 +49,7 @@ OCCUPIED = 10
 abbrev pub SHARED : ℕ
 SHARED = 11
 
--- cells needed exceed the free cells
+-- too few free cells
 abbrev pub NO-ROOM : ℕ
 NO-ROOM = 12
 
@@ -57,11 +57,11 @@ NO-ROOM = 12
 abbrev pub TEXT-SIZE : ℕ
 TEXT-SIZE = 13
 
--- text of 0 bytes
+-- an empty text
 abbrev pub END : ℕ
 END = 14
 
--- a character that is not allowed there, or text that runs out
+-- a character out of place, or a text that ends inside its list
 abbrev pub NOT-A-LIST : ℕ
 NOT-A-LIST = 15
 
@@ -73,7 +73,7 @@ ATOM = 16
 abbrev pub DEEP : ℕ
 DEEP = 17
 
--- a character that the output cannot take
+-- the output is too short for the text
 abbrev pub OUTPUT : ℕ
 OUTPUT = 18
 

@@ -19,7 +19,7 @@ operations (c ∷ a ∷ []) = []
 operations (c ∷ a ∷ b ∷ []) = []
 operations (c ∷ a ∷ b ∷ v ∷ ss) = record { code = c; a = a; b = b; v = v } ∷ operations ss
 
--- SCRIPT: not a multiple of four words, or too many operations
+-- SCRIPT: words are left over behind the last four, or there are too many operations
 abbrev pub badScript : List ℕ → Bool
 badScript ss = not (eqb (length ss % 4) 0) || ltb (4 * operationsMost) (length ss)
 

@@ -48,7 +48,7 @@ pub fn new_cell(s: Shape, t: &mut [u32], kind: u32, elem: u32, next: usize) -> u
     x
 }
 
-// Cell x goes to the head of the free chain.
+// Cell x becomes the first of the free chain.
 pub fn release(s: Shape, t: &mut [u32], x: usize)
     requires { ⌜ Table s (now t) ⌝ }
     requires { ⌜ IsCell s x ⌝ }

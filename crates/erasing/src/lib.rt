@@ -135,7 +135,7 @@ fn step_off(s: Shape, t: &mut [u32], a: usize, b: usize)
     table::set_holder(s, t, b, e);
 }
 
-// ADV: a becomes its tail, and b its first element where that is a list; the old list stays whole for all others.
+// ADV: a becomes its tail, and b its first element where that is a list; whoever else holds the old list keeps all of it.
 pub fn advance(s: Shape, t: &mut [u32], a: usize, b: usize)
     requires { ⌜ Table s (now t) ⌝ }
     requires { ⌜ (a < holderCount s) × (b < holderCount s) × (a ≢ b) ⌝ }

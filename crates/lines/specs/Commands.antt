@@ -1,4 +1,4 @@
--- What a line asks for: a name in capitals, then its numbers, one blank between. READ's text is what stands behind the second blank.
+-- What a line asks for: one of fourteen names, and behind it numbers with a blank before each. READ's text is what stands behind the second blank.
 use mathlib.Core.Bool.{Bool, true, false, cond, _&&_}
 use mathlib.Core.List.{List, [], _∷_}
 use Prim.Native.Nat.{ℕ}

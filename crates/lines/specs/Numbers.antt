@@ -1,4 +1,4 @@
--- Decimal numbers in a line: 1 to 10 digits, below 2^32, and what may stand behind one.
+-- Decimal numbers in a line, of at most ten digits and 32 bits, and what may stand behind one.
 use mathlib.Core.Bool.{Bool, cond, _&&_}
 use mathlib.Core.List.{List, [], _∷_}
 use Prim.Native.Nat.{ℕ, _+_, _*_, _-_}

@@ -30,6 +30,6 @@ reply answer kind value free = column answer blank ++ (column kind blank ++ (col
 abbrev pub question : List ℕ
 question = 63 ∷ lineFeed ∷ []
 
--- READ's text with blanks to a full record
+-- READ's text and the blanks that complete its last record
 abbrev pub filled : List ℕ → List ℕ
 filled s = s ++ fill (length s)

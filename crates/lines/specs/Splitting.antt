@@ -1,4 +1,4 @@
--- Input in lines, and the same byte by byte: a line ends at a line feed, which is not counted, or at the end of input.
+-- Input in lines, and the same byte by byte. A line feed ends a line and is no byte of it; the last line may go without one.
 use mathlib.Core.Bool.{Bool, true, false, cond}
 use mathlib.Core.List.{List, [], _∷_, _++_, map}
 use Prim.Native.Nat.{ℕ}
@@ -14,7 +14,7 @@ abbrev pub before : ℕ → List (List ℕ) → List (List ℕ)
 before c [] = (c ∷ []) ∷ []
 before c (r ∷ rs) = (c ∷ r) ∷ rs
 
--- nothing behind the last line feed is no line
+-- input that ends in a line feed has no further, empty line
 unfoldable pub rows : List ℕ → List (List ℕ)
 rows [] = []
 rows (c ∷ s) = cond (eqb c lineFeed) ([] ∷ rows s) (before c (rows s))

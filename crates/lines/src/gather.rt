@@ -1,4 +1,4 @@
-// Input in chunks, gathered into lines: a line ends at a line feed, and bytes past the limit only mark it as too long.
+// Input in chunks, gathered into lines. A line feed ends one, and bytes past the limit only mark it as too long.
 ghost use mathlib.Core.Path.{_≡_};
 ghost use mathlib.Core.Bool.{false};
 ghost use Prim.Native.Nat.{_+_, _^_, _≤_, _<_};

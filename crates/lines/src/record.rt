@@ -1,4 +1,4 @@
-// READ's text, filled with blanks to a full record.
+// READ's text and the blanks that complete its last record.
 ghost use mathlib.Core.Path.{_≡_};
 ghost use Prim.Native.Nat.{_*_, _≤_};
 ghost use lib.ListN.{length, getD, drop};

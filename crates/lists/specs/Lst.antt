@@ -1,4 +1,4 @@
--- Lists as document 01 has them: a finite sequence of atoms and lists, one constructor for each kind of first element.
+-- Lists as document 01 means them: the null list, or a first element and the rest, with one constructor for each kind of element.
 use Prim.Native.Nat.{ℕ, suc, _+_, _<_, _^_, max}
 
 pub data Lst : Type 0 where
@@ -12,13 +12,13 @@ len nil = 0
 len (atom v l) = suc (len l)
 len (list e l) = suc (len l)
 
--- 1 if no element is a list, else one more than the greatest order among those that are
+-- how many levels of lists there are: 1 where no list is inside, and one more for each list around another
 unfoldable pub order : Lst → ℕ
 order nil = 1
 order (atom v l) = order l
 order (list e l) = max (suc (order e)) (order l)
 
--- the length plus the extents of the elements
+-- how many elements there are on all levels together
 unfoldable pub extent : Lst → ℕ
 extent nil = 0
 extent (atom v l) = suc (extent l)
@@ -45,7 +45,7 @@ joined nil r = r
 joined (atom v l) r = atom v (joined l r)
 joined (list e l) r = list e (joined l r)
 
--- every atom is a whole number from 0 to 2^32 - 1
+-- every atom fits into 32 bits
 unfoldable pub Atoms : Lst → Type 0
 Atoms nil = Unit {0}
 Atoms (atom v l) = (v < 2 ^ 32) × Atoms l

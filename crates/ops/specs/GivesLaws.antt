@@ -33,7 +33,7 @@ does p o e h q = record { table = h .table; is = rw e (h .is); told = rw e q }
 pub first-said : {e : Told} (p : Pool) (a : ℕ) (q : Pool) → Tells p a e → Done (e .kind) (e .value) ≡ said (tellsFirst p a q)
 first-said p a q h = λ i. Done (h .kind i) (h .value i)
 
--- CONC with b null changes nothing
+-- CONC of a null b leaves the pool as it is
 pub conc-null : (p : Pool) (a b : ℕ) → holder p b ≡ 0 → conc p a b ≡ p
 unfolding conc concAt
 conc-null p a b e = go (holder p a) (holder p b) e

@@ -1,4 +1,4 @@
--- What ERASE does: it frees exactly the cells that the holder reaches and no other holder does, and counts them.
+-- What ERASE does: the cells that it frees, and counts, are those that are reached from its holder alone.
 use mathlib.Core.Path.{_≡_, refl, sym, ap, _∙_, subst}
 use mathlib.Core.Logic.{_≢_, inl, inr, _↔_}
 use mathlib.Core.List.{List}

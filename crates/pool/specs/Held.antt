@@ -305,7 +305,7 @@ rehead f cs r a a′ c h e n asides = record {
   acyclic = h .acyclic;
 }
 
--- a cell that is set aside goes to the head of the free chain
+-- a cell that is set aside is put before the free chain
 pub shelve : (f : ℕ) (cs : List Cell) (r a a′ : ℕ → ℕ) (c : ℕ) → Held f cs r a → ((d : ℕ) → a′ d + same c d ≡ a d) → Held c (setNext cs c f) r a′
 shelve f cs r a a′ c h asides =
     let l : 0 < a c = omega (arith, asides c, same-eq c) in

@@ -1,4 +1,4 @@
--- What reading does to a sound pool with room: cells come off the free chain in the order in which elements begin.
+-- What reading does to a sound pool with room: each element takes the first free cell, in the order of the text.
 use mathlib.Core.Path.{_≡_, refl, sym, ap, _∙_, subst}
 use mathlib.Core.Logic.{_≢_}
 use mathlib.Core.List.{List}

@@ -134,7 +134,7 @@ anyShared (suc k) cs (suc i) = let r = anyShared k cs (nextOf cs (suc i)) in ltb
 abbrev pub sharedAt : Pool → ℕ → Bool
 sharedAt p a = anyShared (length (p .cells)) (p .cells) (holder p a)
 
--- reading: the cells of a list, taken off the free chain in the order in which its elements begin
+-- reading: the cells of a list; an element takes the first free cell, then comes what is inside it, then what is behind it
 unfoldable pub load : Lst → ℕ → List Cell → Made
 load nil f cs = record { free = f; cells = cs; head = 0 }
 load (atom v l) f cs =

@@ -60,7 +60,7 @@ setNext cs c s = put cs c (followed (at cs c) s)
 abbrev pub holder : Pool → ℕ → ℕ
 holder p h = getD (p .holders) h 0
 
--- a cell with count 0 is free, any other is live (so number 0 and numbers past the end are not live)
+-- live: the count is not 0 (so number 0 and numbers past the end are not live); all other cells are free
 abbrev pub Live : List Cell → ℕ → Type 0
 Live cs c = 0 < countOf cs c
 
@@ -89,7 +89,7 @@ gives d x = same (x .next) d + cond (eqb (x .kind) 1) (same (x .elem) d) 0
 unfoldable pub sends : ℕ → Cell → ℕ
 sends d x = ifLive (x .count) (gives d x)
 
--- the live cells with that S, and the live cells of type 1 with that E
+-- how many live cells have d as S, and how many of type 1 have it as E
 unfoldable pub byNext : List Cell → ℕ → ℕ
 byNext cs d = tally (λ x. ifLive (x .count) (same (x .next) d)) cs
 
@@ -127,7 +127,7 @@ unfoldable pub frees : List Cell → ℕ
 frees cs = tally (λ x. same (x .count) 0) cs
 
 pub record Sound (p : Pool) : Type 0 where
-  -- the chain from the first free cell holds every free cell once, no live cell, and ends in 0
+  -- the chain from the first free cell ends, and its cells are the free ones, each once
   pub chain : (fs : List ℕ) × Chain (p .cells) (p .free) fs × ((c : ℕ) → occ fs c ≡ mark (p .cells) c)
   pub kinds : (c : ℕ) → Live (p .cells) c → (kindOf (p .cells) c ≡ 0) ⊎ (kindOf (p .cells) c ≡ 1)
   pub nexts : (c : ℕ) → Live (p .cells) c → NullOrLive (p .cells) (nextOf (p .cells) c)

@@ -65,7 +65,7 @@ badCode o = not (leb PFA (o .code) && leb (o .code) LENGTH)
 abbrev pub badHolder : Pool → Operation → Bool
 badHolder p o = leb (length (p .holders)) (o .a) || (usesB (o .code) && leb (length (p .holders)) (o .b))
 
--- SAME: a = b where both are used
+-- SAME: the operation uses a and b, and they are equal
 abbrev pub sameHolder : Operation → Bool
 sameHolder o = usesB (o .code) && eqb (o .a) (o .b)
 

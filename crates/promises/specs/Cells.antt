@@ -35,11 +35,11 @@ Stays p q c = (kindOf (q .cells) c ≡ kindOf (p .cells) c) × (elemOf (q .cells
 abbrev pub BorrowShares : Engine → Type 0
 BorrowShares E = Makes E (λ o p q. o .code ≡ BORROW → (holder q (o .b) ≡ holder p (o .a)) × (q .free ≡ p .free) × ((c : ℕ) → Stays p q c))
 
--- PFA and PFL: the new cell is the head of the free chain
+-- PFA and PFL take the first free cell
 abbrev pub PrefixTakesHead : Engine → Type 0
 PrefixTakesHead E = Makes E (λ o p q. OneOf (o .code) takingOne → holder q (o .a) ≡ p .free)
 
--- DECAP: the cell freed goes to the head of the free chain
+-- DECAP: its cell is the first free one afterwards, before those that were free
 abbrev pub DecapFreesToHead : Engine → Type 0
 DecapFreesToHead E = Makes E (λ o p q. o .code ≡ DECAP → (q .free ≡ holder p (o .a)) × (nextOf (q .cells) (q .free) ≡ p .free))
 

@@ -1,5 +1,5 @@
 -- Demand 1: a call refuses what the rows name, with the number of its first row, and nothing besides; after a refusal table, results and
--- output are as they were and the numbers 0, and the work space is as lent or its first 2N words are 0; and a script ends where an operation
+-- output are as they were and the numbers 0, and the work space is as lent or begins with 2N zeros; and a script ends where an operation
 -- is refused, all before it done.
 use mathlib.Core.Path.{_≡_}
 use mathlib.Core.Logic.{_≢_}
@@ -64,7 +64,7 @@ RefusedWrite E = (ts ws : List ℕ) (h : ℕ) (out : List ℕ) → let r = E .wr
 abbrev pub RefusedCheck : Engine → Type 0
 RefusedCheck E = (xs : List ℕ) → E .check xs .no ≢ DONE → E .check xs .taken ≡ 0
 
--- the work space vs afterwards: ws as lent where one of the rows holds, else its first 2N words are 0 and the rest as lent
+-- the work space vs afterwards: ws as lent where one of the rows holds, else 2N zeros and behind them as lent
 abbrev pub WorkSpace : List Row → List ℕ → List ℕ → List ℕ → Type 0
 WorkSpace rows ts ws vs = ((None rows → ⊥) → vs ≡ ws) × (None rows → vs ≡ cleared (2 * cellsTold ts) ws)
 

@@ -13,7 +13,7 @@ use Rattle.calls.specs.Entry.{shown}
 use Rattle.calls.specs.Run.{operationsMost}
 use Rattle.promises.specs.Rows.{Row, row, OneOf}
 
--- n cells in k words: n outside 1 to 4,000, or a length other than 66 + 4 n
+-- n cells in k words: no pool has n cells, or one of n cells has not k words
 abbrev pub BadSize : ℕ → ℕ → Type 0
 BadSize n k = (n < 1) ⊎ (cellsMost < n) ⊎ (k ≢ tableWords n)
 

@@ -58,7 +58,7 @@ Follows c d b =
 abbrev pub Allowed : List ℕ → ℕ → Type 0
 Allowed us b = Follows (lastIn us) (openIn us) b
 
--- b is a twelfth digit, or one that makes the value 2^32 or more
+-- b is a digit behind eleven others, or one with which the value is over 32 bits
 abbrev pub TooLarge : List ℕ → ℕ → Type 0
 TooLarge us b = Octal b × ((digitsMost ≤ digitsIn us) ⊎ (atomsEnd ≤ valueIn us * 8 + (b - 48)))
 

@@ -18,7 +18,7 @@ pub record Open : Type 0 where
   pub cell : ℕ
   pub rest : Lst
 
--- the head of the free chain, and the cells
+-- the first free cell, and the cells
 pub record Built : Type 0 where
   pub free : ℕ
   pub cells : List Cell

@@ -114,7 +114,7 @@ fn rest_start(text: &[u8]) -> usize
     }
 }
 
-// The records after the first list, as the caller's own text: the empty part at the end where the check refuses.
+// The part of the lent text behind the record in which its first list ends. It is empty, at the text's end, where the check refuses.
 pub fn rest(text: &[u8]) -> &[u8]
     ensures { λ r. ⌜ now r ≡ drop (restAt (now (text .entry))) (now (text .entry)) ⌝ }
     ensures own { λ r. ⌜ (ptr r .0 ≡ ptr (text .entry) .0) × (ptr r .1 ≡ ptr (text .entry) .1 + restAt (now (text .entry))) ⌝ }

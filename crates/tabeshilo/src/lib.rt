@@ -1,4 +1,4 @@
-// The C boundary: every call to be had from C, each one line over the crate that does it. The header is include/tabeshilo.h.
+// The C boundary: the calls that C links, each one line over the crate that does it. The header is include/tabeshilo.h.
 ghost use mathlib.Core.Path.{_≡_};
 ghost use Rattle.answers.specs.Answers.{outcome};
 ghost use Rattle.calls.specs.Contracts.{Runs, Reads, wrote};

@@ -6,7 +6,7 @@ use lib.Dec.{eqb, leb}
 use Rattle.answers.specs.Answers.{DONE, DEEP, OUTPUT}
 use Rattle.text.specs.Limits.{levels, recordBytes, textMost}
 
--- the largest multiple of a record within both the room lent and a text
+-- the bytes of the whole records that fit into the room lent, and into a text
 abbrev pub usable : ℕ → ℕ
 usable room = min room textMost / recordBytes * recordBytes
 

@@ -20,7 +20,7 @@ pub mod atoms;
 pub mod put;
 pub mod walk;
 
-// The largest multiple of a record within both the room lent and a text.
+// The bytes of the whole records that fit into the room lent, and into a text.
 fn usable(room: usize) -> usize
     ensures { λ r. ⌜ r ≡ usable room ⌝ }
 {
@@ -66,7 +66,7 @@ fn write_list(s: Shape, t: &[u32], x: usize, out: &mut [u8]) -> Outcome
     Outcome::done(end as u32)
 }
 
-// Every refusal comes before a byte is written: 1, 2, 7, 5, then the earliest of 17 and 18.
+// Every refusal comes before a byte is written: first 1, 2, 7 and 5, then 17 or 18, whichever is met first.
 pub fn write(table: &[u32], work: &mut [u32], h: u32, out: &mut [u8]) -> Outcome
     ensures { λ r. ⌜ wrote r (now (work .exit)) (now (out .exit)) ≡ writeOut (now (table .entry)) (now (work .entry)) h (now (out .entry)) ⌝ }
 {
