@@ -15,7 +15,7 @@ use answers::Outcome;
 use ops::Reply;
 use table::Shape;
 
-// A script: words in fours, code, a, b and v.
+// A script: for each operation its code, a, b and v.
 pub struct Script(pub usize);
 
 impl Script {
