@@ -12,7 +12,7 @@ len nil = 0
 len (atom v l) = suc (len l)
 len (list e l) = suc (len l)
 
--- how many levels of lists there are: 1 where no list is inside, and one more for each list around another
+-- the levels of lists on the deepest way down: 1 where no list is inside
 unfoldable pub order : Lst → ℕ
 order nil = 1
 order (atom v l) = order l
