@@ -10,16 +10,8 @@
 #include "reference.h"
 #include "texts.h"
 
-/* The library may have only some of its calls; the others are null then. */
-#pragma weak tab_set_up
-#pragma weak tab_run
-#pragma weak tab_read
-#pragma weak tab_write
-#pragma weak tab_check
-
 enum { SET_UP, RUN, READ, WRITE, CHECK, CALLS };
 static const char *const call_name[CALLS] = {"set_up", "run", "read", "write", "check"};
-static int present[CALLS];
 
 lent table, work, script, results, in, out;
 unsigned long long seed = 1, this_case, different;
@@ -38,7 +30,7 @@ static uint32_t *words(lent *l) { return (uint32_t *)(void *)l->at; }
 static void begin(int call) {
     this_call = call;
     calls_in_case++;
-    if (present[call]) calls_made++;
+    calls_made++;
 }
 
 /* `number`: the one argument that is no memory, if there is one. */
@@ -79,10 +71,8 @@ uint32_t call_set_up(size_t table_words, uint32_t cells) {
     fill_random(table.own, 4 * table_words);
     lend(&table, table_words);
     tab_outcome should = {ref_set_up(own(&table), table_words, cells), 0};
-    if (present[SET_UP]) {
-        tab_outcome got = {tab_set_up(words(&table), table_words, cells), 0};
-        compare("cells", cells, got, should, (lent *const[]){&table}, 1);
-    }
+    tab_outcome got = {tab_set_up(words(&table), table_words, cells), 0};
+    compare("cells", cells, got, should, (lent *const[]){&table}, 1);
     return should.answer;
 }
 
@@ -105,12 +95,10 @@ tab_outcome call_run(size_t table_words, size_t work_words, size_t script_words,
     lend(&results, results_words);
     tab_outcome should = ref_run(own(&table), table_words, own(&work), work_words, own(&script), script_words,
                                  own(&results), results_words);
-    if (present[RUN]) {
-        count_operations(should, own(&script), script_words);
-        tab_outcome got = tab_run(words(&table), table_words, words(&work), work_words, words(&script), script_words,
-                                  words(&results), results_words);
-        compare(NULL, 0, got, should, (lent *const[]){&table, &work, &script, &results}, 4);
-    }
+    count_operations(should, own(&script), script_words);
+    tab_outcome got = tab_run(words(&table), table_words, words(&work), work_words, words(&script), script_words,
+                              words(&results), results_words);
+    compare(NULL, 0, got, should, (lent *const[]){&table, &work, &script, &results}, 4);
     return should;
 }
 
@@ -121,10 +109,8 @@ tab_outcome call_read(size_t table_words, size_t work_words, uint32_t holder, si
     lend(&work, work_words);
     lend(&in, bytes);
     tab_outcome should = ref_read(own(&table), table_words, own(&work), work_words, holder, in.own, bytes);
-    if (present[READ]) {
-        tab_outcome got = tab_read(words(&table), table_words, words(&work), work_words, holder, in.at, bytes);
-        compare("holder", holder, got, should, (lent *const[]){&table, &work, &in}, 3);
-    }
+    tab_outcome got = tab_read(words(&table), table_words, words(&work), work_words, holder, in.at, bytes);
+    compare("holder", holder, got, should, (lent *const[]){&table, &work, &in}, 3);
     return should;
 }
 
@@ -136,10 +122,8 @@ tab_outcome call_write(size_t table_words, size_t work_words, uint32_t holder, s
     lend(&work, work_words);
     lend(&out, room);
     tab_outcome should = ref_write(own(&table), table_words, own(&work), work_words, holder, out.own, room);
-    if (present[WRITE]) {
-        tab_outcome got = tab_write(words(&table), table_words, words(&work), work_words, holder, out.at, room);
-        compare("holder", holder, got, should, (lent *const[]){&table, &work, &out}, 3);
-    }
+    tab_outcome got = tab_write(words(&table), table_words, words(&work), work_words, holder, out.at, room);
+    compare("holder", holder, got, should, (lent *const[]){&table, &work, &out}, 3);
     return should;
 }
 
@@ -147,16 +131,11 @@ tab_outcome call_check(size_t bytes) {
     begin(CHECK);
     lend(&in, bytes);
     tab_outcome should = ref_check(in.own, bytes);
-    if (present[CHECK]) compare(NULL, 0, tab_check(in.at, bytes), should, (lent *const[]){&in}, 1);
+    compare(NULL, 0, tab_check(in.at, bytes), should, (lent *const[]){&in}, 1);
     return should;
 }
 
 void calls_start(void) {
-    present[SET_UP] = tab_set_up != NULL;
-    present[RUN] = tab_run != NULL;
-    present[READ] = tab_read != NULL;
-    present[WRITE] = tab_write != NULL;
-    present[CHECK] = tab_check != NULL;
     lent_make(&table, "table", 4, 16100);
     lent_make(&work, "work", 4, 8100);
     lent_make(&script, "script", 4, 16500);
@@ -203,13 +182,13 @@ static const unsigned refusals[12] = {
 int too_weak(void) {
     int weak = 0;
     for (int call = 0; call < CALLS; call++) {
-        for (unsigned a = 0; a < 19 && present[call]; a++) {
+        for (unsigned a = 0; a < 19; a++) {
             if ((answers[call] & SET(a)) == 0 || answered[call][a] > 0) continue;
             printf("tests: tab_%s never answered %u\n", call_name[call], a);
             weak = 1;
         }
     }
-    for (unsigned code = 0; code < 12 && present[RUN]; code++) {
+    for (unsigned code = 0; code < 12; code++) {
         if (code > 0 && done[code] == 0) printf("tests: operation %u was never done\n", code), weak = 1;
         for (unsigned a = 0; a < 19; a++) {
             if ((refusals[code] & SET(a)) == 0 || refused[code][a] > 0) continue;
@@ -220,21 +199,10 @@ int too_weak(void) {
     return weak;
 }
 
-int calls_missing(void) {
-    int missing = 0;
-    for (int call = 0; call < CALLS; call++) {
-        if (present[call]) continue;
-        printf("tests: the library has no tab_%s\n", call_name[call]);
-        missing = 1;
-    }
-    return missing;
-}
-
 void print_counts(void) {
     printf("tests: seed %llu: %llu calls, %llu different", seed, calls_made, different);
     for (int call = 0; call < CALLS; call++) {
         printf("; %s", call_name[call]);
-        if (!present[call]) printf(" not there");
         for (int a = 0; a < 19; a++)
             if (answered[call][a] > 0) printf(" %d:%llu", a, answered[call][a]);
     }

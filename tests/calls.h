@@ -33,9 +33,6 @@ tab_outcome call_check(size_t bytes);
 /* One line: the calls made, by call and answer. */
 void print_counts(void);
 
-/* Says which calls the library does not have; gives whether there is one. */
-int calls_missing(void);
-
 /* Says which answers never came up, and which refusals of which operations: then the test is too weak to be trusted. */
 int too_weak(void);
 

@@ -2,6 +2,8 @@
  * Is the reference right? Three ways to tell, none of which looks at its code: the cases that the rules themselves
  * name; operations held to what they mean for the lists, which are written out as text and cut and joined there; and
  * soundness held to a second definition, counted pair by pair with a full table of who reaches whom.
+ *
+ * Built with -DLIBRARY it asks the same of the library: every ref_ below is then the library's call.
  */
 #include <stdio.h>
 #include <string.h>
@@ -10,20 +12,30 @@
 #include "reference.h"
 #include "tables.h"
 
+#ifdef LIBRARY
+#define SUBJECT "library"
+#define ref_set_up tab_set_up
+#define ref_run tab_run
+#define ref_read tab_read
+#define ref_write tab_write
+#define ref_check tab_check
+#else
+#define SUBJECT "reference"
+#endif
+
+enum { MOST_SHOWN = 20 };
 static int checks, wrong;
 
 static void is(const char *what, long got, long should) {
     checks++;
     if (got == should) return;
-    wrong++;
-    printf("selftest: %s: %ld, should be %ld\n", what, got, should);
+    if (wrong++ < MOST_SHOWN) printf("selftest: " SUBJECT ": %s: %ld, should be %ld\n", what, got, should);
 }
 
 static void is_text(const char *what, const char *got, const char *should) {
     checks++;
     if (strcmp(got, should) == 0) return;
-    wrong++;
-    printf("selftest: %s: %.100s, should be %.100s\n", what, got, should);
+    if (wrong++ < MOST_SHOWN) printf("selftest: " SUBJECT ": %s: %.100s, should be %.100s\n", what, got, should);
 }
 
 /* ---- A pool to play with */
@@ -508,6 +520,6 @@ int main(void) {
     traps();
     meaning();
     soundness();
-    printf("selftest: %d checks of the reference, %d wrong\n", checks, wrong);
+    printf("selftest: %d checks of the " SUBJECT ", %d wrong\n", checks, wrong);
     return wrong > 0;
 }
