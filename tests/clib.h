@@ -26,6 +26,9 @@ char *strcat(char *to, const char *from);
 size_t strlen(const char *text);
 int strcmp(const char *a, const char *b);
 
+typedef long ssize_t;
+ssize_t read(int file, void *to, size_t bytes);
+ssize_t write(int file, const void *from, size_t bytes);
 unsigned alarm(unsigned seconds);
 void (*signal(int number, void (*handler)(int)))(int);
 #define SIGILL 4
