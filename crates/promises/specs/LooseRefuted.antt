@@ -12,11 +12,12 @@ use Rattle.text.specs.Marks.{listIn}
 use Rattle.text.specs.Text.{scanned, verdict}
 use Rattle.setup.specs.SetUp.{setUp}
 use Rattle.calls.specs.Read.{readIn}
-use Rattle.promises.specs.Demand1.{RunWork, RefusedCheck}
+use Rattle.calls.specs.Write.{writeOut}
+use Rattle.promises.specs.Demand1.{RefusedSetUp, RefusedRun, RefusedRead, RefusedWrite, RefusedCheck, RunWork, ReadWork, WriteWork}
 use Rattle.promises.specs.Cells.{BorrowShares, ReadingUsesItsCells}
 use Rattle.promises.specs.Demand2.{SetUpGives, RestGives}
-use Rattle.promises.specs.WrongEngines.{setsUpDirty, spoilsWork, copying}
-use Rattle.promises.specs.WrongTexts.{countsRefused, losesRest, loadLate, takesLate}
+use Rattle.promises.specs.WrongEngines.{setsUpDirty, clearsFirst, copying}
+use Rattle.promises.specs.WrongTexts.{countsRefused, keepsCells, losesRest, loadLate, takesLate}
 use Rattle.promises.specs.Computed.{computed}
 use Rattle.promises.specs.Refuted.{zeros, prefix, two}
 
@@ -25,12 +26,44 @@ pub sets-up-dirty : SetUpGives setsUpDirty → ⊥
 unfolding computed
 sets-up-dirty d = omega (arith, d (zeros 70) 1 refl .1 .empty 1 0 (omega arith) (omega arith) (omega arith))
 
--- TABLE SIZE leaves the work space as lent
-pub spoils-work : RunWork spoilsWork → ⊥
+-- TABLE SIZE leaves all as lent: a word 9 of the table, the results, the output or the work space
+abbrev nine : List ℕ
+nine = 9 ∷ []
+
+cleared-nine : 0 ∷ [] ≡ nine → ⊥
+cleared-nine e = omega (arith, ap (λ (us : List ℕ). getD us 0 0) e)
+
+pub clears-set-up : RefusedSetUp clearsFirst → ⊥
 unfolding computed
-spoils-work d =
-    let e : _≡_ {A = List ℕ} [] (9 ∷ []) = d [] (9 ∷ []) [] [] .0 (λ n. n .0 (inl (omega arith))) in
-    omega (arith, ap length e)
+clears-set-up d = cleared-nine (d nine 0 (λ z. omega arith))
+
+pub clears-results : RefusedRun clearsFirst → ⊥
+unfolding computed
+clears-results d = cleared-nine (d [] [] [] nine (λ n. n .0 (inl (omega arith))) .1)
+
+pub clears-output : RefusedWrite clearsFirst → ⊥
+unfolding computed writeOut
+clears-output d = cleared-nine (d [] [] 0 nine (λ z. omega arith) .0)
+
+pub clears-run-work : RunWork clearsFirst → ⊥
+unfolding computed
+clears-run-work d = cleared-nine (d [] nine [] [] .0 (λ n. n .0 (inl (omega arith))))
+
+pub clears-read-work : ReadWork clearsFirst → ⊥
+unfolding computed readIn
+clears-read-work d = cleared-nine (d [] nine 0 [] .0 (λ n. n .0 (inl (omega arith))))
+
+pub clears-write-work : WriteWork clearsFirst → ⊥
+unfolding computed writeOut
+clears-write-work d = cleared-nine (d [] nine 0 [] .0 (λ n. n .0 (inl (omega arith))))
+
+-- "(" and blanks are no list, and the one cell stays free
+pub keeps-cells : RefusedRead keepsCells → ⊥
+unfolding computed readIn verdict scanned
+keeps-cells d =
+    let one = setUp (zeros 70) 1 .table in
+    let e = d one (zeros 2) 0 (40 ∷ replicate 71 32) (λ z. omega arith) .0 in
+    omega (arith, ap (λ (us : List ℕ). getD us 1 0) e)
 
 -- a text of 0 bytes is refused, with 0 bytes taken
 pub counts-refused : RefusedCheck countsRefused → ⊥

@@ -4,7 +4,7 @@ use mathlib.Core.Bool.{Bool, true, cond, not, _&&_}
 use mathlib.Core.List.{List, [], _∷_}
 use Prim.Native.Nat.{ℕ, zero, suc, _+_, _-_}
 use lib.Dec.{eqb, ltb}
-use lib.ListN.{length, getD, set, take}
+use lib.ListN.{length, getD, set, take, replicate}
 use Rattle.answers.specs.Answers.{DONE, TABLE-SIZE, WORK-SPACE, SCRIPT, RESULTS, UNSOUND, SAME, SHARED, NO-ROOM}
 use Rattle.pool.specs.Tally.{occ}
 use Rattle.pool.specs.Pool.{Pool, countOf, nextOf, setCount, holder, frees}
@@ -16,8 +16,8 @@ use Rattle.pool.specs.Script.{PFA, DECAP, BORROW, ERASE, INV, CINV, CONC, Opera
 use Rattle.setup.specs.SetUp.{setUp}
 use Rattle.calls.specs.Entry.{badTable, badWork, shown, used}
 use Rattle.calls.specs.Run.{Ran, operations, badScript, badResults, notRun, ranTo, ran}
-use Rattle.calls.specs.Read.{notRead}
-use Rattle.calls.specs.Write.{notWritten}
+use Rattle.calls.specs.Read.{notRead, readIn}
+use Rattle.calls.specs.Write.{notWritten, writeOut}
 use Rattle.promises.specs.Engine.{Engine, ours}
 
 -- ours with another script run
@@ -69,9 +69,19 @@ neverLends = running (λ ts ws ss rs.
 abbrev pub setsUpDirty : Engine
 setsUpDirty = record { setUp = λ ts n. let g = setUp ts n in record { answer = g .answer; table = set (g .table) 66 7 }; run = ours .run; read = ours .read; write = ours .write; check = ours .check; rest = ours .rest }
 
--- leaves other words in the work space
-abbrev pub spoilsWork : Engine
-spoilsWork = running (λ ts ws ss rs. let r = ran ts ws ss rs in record { answer = r .answer; count = r .count; table = r .table; work = []; results = r .results })
+-- clears what it is lent before it looks whether it may
+abbrev clearing : ℕ → List ℕ → List ℕ → List ℕ
+clearing k given lent = cond (eqb k DONE) given (replicate (length lent) 0)
+
+abbrev pub clearsFirst : Engine
+clearsFirst = record {
+  setUp = λ ts n. let r = setUp ts n in record { answer = r .answer; table = clearing (r .answer) (r .table) ts };
+  run = λ ts ws ss rs. let r = ran ts ws ss rs in record { answer = r .answer; count = r .count; table = r .table; work = clearing (r .answer) (r .work) ws; results = clearing (r .answer) (r .results) rs };
+  read = λ ts ws h xs. let r = readIn ts ws h xs in record { answer = r .answer; count = r .count; table = r .table; work = clearing (r .answer) (r .work) ws };
+  write = λ ts ws h out. let r = writeOut ts ws h out in record { answer = r .answer; count = r .count; work = clearing (r .answer) (r .work) ws; output = clearing (r .answer) (r .output) out };
+  check = ours .check;
+  rest = ours .rest;
+}
 
 -- ours with another test for soundness and other rules for operations
 

@@ -4,7 +4,7 @@ use mathlib.Core.List.{List, [], _∷_}
 use Prim.Native.Nat.{ℕ}
 use lib.Dec.{eqb}
 use lib.ListN.{length, set}
-use Rattle.answers.specs.Answers.{DONE, ATOM}
+use Rattle.answers.specs.Answers.{DONE, NOT-A-LIST, ATOM}
 use Rattle.lists.specs.Lst.{Lst, nil, atom, list, reversed}
 use Rattle.pool.specs.Pool.{Cell, Pool, put, nextOf}
 use Rattle.pool.specs.Operations.{Made, read, listOf}
@@ -24,6 +24,12 @@ taking f g = record { setUp = ours .setUp; run = ours .run; read = f; write = ou
 -- a text check with a number beside its refusal
 abbrev pub countsRefused : Engine
 countsRefused = taking readIn (λ xs. record { no = verdict xs .no; taken = 99 })
+
+-- takes cells while it reads, and keeps them where the text has a fault
+abbrev pub keepsCells : Engine
+keepsCells = taking
+    (λ ts ws h xs. let r = readIn ts ws h xs in record { answer = r .answer; count = r .count; table = cond (eqb (r .answer) NOT-A-LIST) (set ts 1 0) (r .table); work = r .work })
+    verdict
 
 -- says of a text that is taken that it is taken whole, records behind the list and all
 abbrev pub takesAll : Engine
