@@ -11,8 +11,8 @@ use Rattle.table.specs.Sizes.{cellsOf}
 use Rattle.setup.specs.SetUp.{setUp}
 use Rattle.calls.specs.Run.{operations, ran}
 use Rattle.promises.specs.Machine.{assign, turn, turnAll}
-use Rattle.promises.specs.WrongEngines.{performedBy, ranBy, lowering, countsRight}
+use Rattle.promises.specs.WrongEngines.{performedBy, ranBy, stepping, countsRight}
 
 unfoldable pub computed : Unit {0}
-unfolding same tally mark frees lives ifLive gives sends check peeled? turns popped pop arrow meet lowered named chained visit step run total dropped laid fresh share itemOf pfa decap borrow erase flip inv lastOf concAt conc span anyShared refusal effect after performed tab view cellOf words spread cellsOf setUp operations ran turn assign turnAll performedBy ranBy lowering countsRight
+unfolding same tally mark frees lives ifLive gives sends check peeled? turns popped pop arrow meet lowered named chained visit step run total dropped laid fresh share itemOf pfa decap borrow erase flip inv lastOf concAt conc span anyShared refusal effect after performed tab view cellOf words spread cellsOf setUp operations ran turn assign turnAll performedBy ranBy stepping countsRight
 computed = tt

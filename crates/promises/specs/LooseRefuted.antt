@@ -6,17 +6,17 @@ use Prim.Native.Nat.{ℕ}
 use native.Mathlib.Omega.{arith}
 use lib.ListN.{length, getD, replicate}
 use Rattle.lists.specs.Lst.{extent}
-use Rattle.pool.specs.Operations.{copy, cinv, load, read}
-use Rattle.pool.specs.Script.{BORROW, Operation}
+use Rattle.pool.specs.Operations.{pfl, copy, cinv, load, read}
+use Rattle.pool.specs.Script.{PFL, BORROW, ERASE, Operation}
 use Rattle.text.specs.Marks.{listIn}
 use Rattle.text.specs.Text.{scanned, verdict}
 use Rattle.setup.specs.SetUp.{setUp}
 use Rattle.calls.specs.Read.{readIn}
 use Rattle.calls.specs.Write.{writeOut}
 use Rattle.promises.specs.Demand1.{RefusedSetUp, RefusedRun, RefusedRead, RefusedWrite, RefusedCheck, RunWork, ReadWork, WriteWork}
-use Rattle.promises.specs.Cells.{BorrowShares, ReadingUsesItsCells}
+use Rattle.promises.specs.Cells.{BorrowShares, OperationsUseTheirCells, ReadingUsesItsCells}
 use Rattle.promises.specs.Demand2.{SetUpGives, RestGives}
-use Rattle.promises.specs.WrongEngines.{setsUpDirty, clearsFirst, copying}
+use Rattle.promises.specs.WrongEngines.{setsUpDirty, clearsFirst, copying, waitsInLine}
 use Rattle.promises.specs.WrongTexts.{countsRefused, keepsCells, losesRest, loadLate, takesLate}
 use Rattle.promises.specs.Computed.{computed}
 use Rattle.promises.specs.Refuted.{zeros, prefix, two}
@@ -85,6 +85,15 @@ copying-refuted d =
     let t = copying .run two (zeros 4) (prefix 0 5) (zeros 2) .table in
     let o : Operation = record { code = BORROW; a = 0; b = 1; v = 0 } in
     let e : _≡_ {A = ℕ} 2 1 = d t (zeros 4) (zeros 2) o refl refl .0 in
+    omega arith
+
+-- two null lists in one list: the last to wait is freed first, so that the other leads the free chain
+pub waits-in-line : OperationsUseTheirCells waitsInLine → ⊥
+unfolding computed pfl
+waits-in-line d =
+    let t = waitsInLine .run two (zeros 4) (PFL ∷ 0 ∷ 1 ∷ 0 ∷ PFL ∷ 0 ∷ 1 ∷ 0 ∷ []) (zeros 4) .table in
+    let o : Operation = record { code = ERASE; a = 0; b = 0; v = 0 } in
+    let e : _≡_ {A = ℕ} 1 2 = ap (λ (us : List ℕ). getD us 1 0) (d t (zeros 4) (zeros 2) o refl) in
     omega arith
 
 -- ((1),2) in three cells: the element of the first is the second, where the late reader has the third

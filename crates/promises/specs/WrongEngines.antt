@@ -1,13 +1,13 @@
 -- Engines that break a demand, each in one way: those that document 01 wants to see refused, the slips that it warns of, some whose lists are
 -- right and whose words are not, and some that stop or free where they should not. Those that are wrong about text stand in WrongTexts.
-use mathlib.Core.Bool.{Bool, true, cond, not, _&&_}
+use mathlib.Core.Bool.{Bool, true, cond, not, _&&_, _||_}
 use mathlib.Core.List.{List, [], _∷_}
 use Prim.Native.Nat.{ℕ, zero, suc, _+_, _-_}
 use lib.Dec.{eqb, ltb}
 use lib.ListN.{length, getD, set, take, replicate}
 use Rattle.answers.specs.Answers.{DONE, TABLE-SIZE, WORK-SPACE, SCRIPT, RESULTS, UNSOUND, SAME, SHARED, NO-ROOM}
 use Rattle.pool.specs.Tally.{occ}
-use Rattle.pool.specs.Pool.{Pool, countOf, nextOf, setCount, holder, frees}
+use Rattle.pool.specs.Pool.{Pool, countOf, nextOf, setCount, setNext, holder, frees}
 use Rattle.pool.specs.Held.{into}
 use Rattle.pool.specs.Erase.{Dropping, step, total}
 use Rattle.pool.specs.Operations.{decap, inv}
@@ -131,21 +131,37 @@ decapsShared = allowing (λ p o. eqb (o .code) DECAP && eqb (refusal p o) SHARED
 abbrev pub firstCountOnly : Engine
 firstCountOnly = allowing (λ p o. eqb (o .code) INV && (eqb (refusal p o) SHARED && eqb (countOf (p .cells) (holder p (o .a))) 1))
 
--- ERASE that goes on behind a cell whose count is not yet 0
-unfoldable pub lowering : ℕ → Dropping → Dropping
-lowering zero s = s
-lowering (suc k) s =
-    let x = s .here in
-    let t = step (s .free) (s .cells) (s .here) (s .waiting) (s .freed) in
-    lowering k (cond (ltb 1 (countOf (s .cells) x)) (record { free = t .free; cells = t .cells; here = nextOf (s .cells) x; waiting = t .waiting; freed = t .freed }) t)
+-- ERASE by other steps
+unfoldable pub stepping : (Dropping → Dropping) → ℕ → Dropping → Dropping
+stepping f zero s = s
+stepping f (suc k) s = stepping f k (f s)
 
-abbrev erasesBehind : Pool → ℕ → Effect
-erasesBehind p a =
-    let s = lowering (total (p .cells) + total (p .cells)) (record { free = p .free; cells = p .cells; here = holder p a; waiting = 0; freed = 0 }) in
-    tellsNumber (s .freed) (record { free = s .free; holders = set (p .holders) a 0; cells = s .cells })
+abbrev erasing : (Dropping → Dropping) → Engine
+erasing f = ruled refusal (λ p o. cond (eqb (o .code) ERASE) (erases p (o .a)) (effect p o))
+  where
+    erases : Pool → ℕ → Effect
+    erases p a =
+        let s = stepping f (total (p .cells) + total (p .cells)) (record { free = p .free; cells = p .cells; here = holder p a; waiting = 0; freed = 0 }) in
+        tellsNumber (s .freed) (record { free = s .free; holders = set (p .holders) a 0; cells = s .cells })
 
+abbrev stepped : Dropping → Dropping
+stepped s = step (s .free) (s .cells) (s .here) (s .waiting) (s .freed)
+
+-- it goes on behind a cell whose count is not yet 0
 abbrev pub lowersBehind : Engine
-lowersBehind = ruled refusal (λ p o. cond (eqb (o .code) ERASE) (erasesBehind p (o .a)) (effect p o))
+lowersBehind = erasing (λ s.
+    let x = s .here in
+    let t = stepped s in
+    cond (ltb 1 (countOf (s .cells) x)) (record { free = t .free; cells = t .cells; here = nextOf (s .cells) x; waiting = t .waiting; freed = t .freed }) t)
+
+-- it puts a cell that waits behind the head of the waiting chain, and so frees the earlier one first
+abbrev pub waitsInLine : Engine
+waitsInLine = erasing (λ s.
+    let b = s .waiting in
+    let t = stepped s in
+    let x = t .waiting in
+    cond (eqb b 0 || not (eqb x (s .here))) t
+    (record { free = t .free; cells = setNext (setNext (t .cells) x (nextOf (s .cells) b)) b x; here = t .here; waiting = b; freed = t .freed }))
 
 -- DECAP that gives the tail's count another value
 abbrev recounts : (ℕ → ℕ) → Engine

@@ -273,6 +273,7 @@ pub fn examine(s: Shape, t: &[u32], w: &mut [u32]) -> Found
     }
 }
 
+// What it says of the table alone.
 pub fn is_sound(s: Shape, t: &[u32], w: &mut [u32]) -> bool
     requires { ⌜ Table s (now t) ⌝ }
     requires { ⌜ 2 * s .cells ≤ length (now w) ⌝ }
