@@ -4,4 +4,5 @@ pub mod Read
 pub mod Write
 pub mod Contracts
 pub mod Chars
+pub mod SameForm
 pub mod Cases

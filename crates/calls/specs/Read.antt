@@ -11,6 +11,8 @@ use Rattle.pool.specs.Pool.{holder, frees}
 use Rattle.text.specs.Limits.{recordBytes, textMost}
 use Rattle.text.specs.Marks.{listIn}
 use Rattle.text.specs.Text.{verdict}
+use Rattle.table.specs.declared.Form.{Form}
+use Rattle.table.specs.declared.Form.the-variants.{Four}
 use Rattle.calls.specs.Entry.{badTable, badWork, noHolder, shown, unsound, stored, used}
 
 -- TEXT SIZE: not a multiple of a record, or too many bytes
@@ -28,21 +30,25 @@ abbrev pub notRead : ℕ → List ℕ → List ℕ → Read
 notRead n ts ws = record { answer = n; count = 0; table = ts; work = ws }
 
 -- a text that is to go into holder h of a sound pool
-abbrev pub readInto : List ℕ → List ℕ → ℕ → List ℕ → Read
-readInto ts ws h xs =
-    let p = shown ts in
+abbrev pub readInto : Form → List ℕ → List ℕ → ℕ → List ℕ → Read
+readInto f ts ws h xs =
+    let p = shown f ts in
     let v = verdict xs in
-    cond (not (eqb (holder p h) 0)) (notRead OCCUPIED ts (used ts ws))
-    (cond (not (eqb (v .no) DONE)) (notRead (v .no) ts (used ts ws))
-    (cond (ltb (frees (p .cells)) (extent (listIn xs))) (notRead NO-ROOM ts (used ts ws))
-    (record { answer = DONE; count = v .taken; table = stored ts (read p h (listIn xs)); work = used ts ws })))
+    cond (not (eqb (holder p h) 0)) (notRead OCCUPIED ts (used f ts ws))
+    (cond (not (eqb (v .no) DONE)) (notRead (v .no) ts (used f ts ws))
+    (cond (ltb (frees (p .cells)) (extent (listIn xs))) (notRead NO-ROOM ts (used f ts ws))
+    (record { answer = DONE; count = v .taken; table = stored f ts (read p h (listIn xs)); work = used f ts ws })))
 
-unfoldable pub readIn : List ℕ → List ℕ → ℕ → List ℕ → Read
-readIn ts ws h xs =
-    cond (badTable ts) (notRead TABLE-SIZE ts ws)
-    (cond (badWork ts ws) (notRead WORK-SPACE ts ws)
-    (cond (noHolder ts h) (notRead HOLDER ts ws)
+unfoldable pub readingIn : Form → List ℕ → List ℕ → ℕ → List ℕ → Read
+readingIn f ts ws h xs =
+    cond (badTable f ts) (notRead TABLE-SIZE ts ws)
+    (cond (badWork f ts ws) (notRead WORK-SPACE ts ws)
+    (cond (noHolder f ts h) (notRead HOLDER ts ws)
     (cond (badText xs) (notRead TEXT-SIZE ts ws)
     (cond (eqb (length xs) 0) (notRead END ts ws)
-    (cond (unsound ts) (notRead UNSOUND ts (used ts ws))
-    (readInto ts ws h xs))))))
+    (cond (unsound f ts) (notRead UNSOUND ts (used f ts ws))
+    (readInto f ts ws h xs))))))
+
+-- on a table with four words a cell
+abbrev pub readIn : List ℕ → List ℕ → ℕ → List ℕ → Read
+readIn ts ws h xs = readingIn Four ts ws h xs

@@ -6,6 +6,8 @@ use lib.Dec.{eqb, ltb}
 use lib.ListN.{length}
 use Rattle.answers.specs.Answers.{TABLE-SIZE, WORK-SPACE, SCRIPT, RESULTS, UNSOUND}
 use Rattle.pool.specs.Script.{Operation, Run, performed}
+use Rattle.table.specs.declared.Form.{Form}
+use Rattle.table.specs.declared.Form.the-variants.{Four}
 use Rattle.calls.specs.Entry.{badTable, badWork, shown, unsound, stored, used, over}
 
 abbrev pub operationsMost : ℕ
@@ -38,14 +40,18 @@ pub record Ran : Type 0 where
 abbrev pub notRun : ℕ → List ℕ → List ℕ → List ℕ → Ran
 notRun n ts ws rs = record { answer = n; count = 0; table = ts; work = ws; results = rs }
 
-abbrev pub ranTo : Run → List ℕ → List ℕ → List ℕ → Ran
-ranTo r ts ws rs = record { answer = r .answer; count = r .done; table = stored ts (r .pool); work = used ts ws; results = over (r .results) rs }
+abbrev pub ranTo : Form → Run → List ℕ → List ℕ → List ℕ → Ran
+ranTo f r ts ws rs = record { answer = r .answer; count = r .done; table = stored f ts (r .pool); work = used f ts ws; results = over (r .results) rs }
 
-unfoldable pub ran : List ℕ → List ℕ → List ℕ → List ℕ → Ran
-ran ts ws ss rs =
-    cond (badTable ts) (notRun TABLE-SIZE ts ws rs)
-    (cond (badWork ts ws) (notRun WORK-SPACE ts ws rs)
+unfoldable pub ranIn : Form → List ℕ → List ℕ → List ℕ → List ℕ → Ran
+ranIn f ts ws ss rs =
+    cond (badTable f ts) (notRun TABLE-SIZE ts ws rs)
+    (cond (badWork f ts ws) (notRun WORK-SPACE ts ws rs)
     (cond (badScript ss) (notRun SCRIPT ts ws rs)
     (cond (badResults ss rs) (notRun RESULTS ts ws rs)
-    (cond (unsound ts) (notRun UNSOUND ts (used ts ws) rs)
-    (ranTo (performed (shown ts) (operations ss)) ts ws rs)))))
+    (cond (unsound f ts) (notRun UNSOUND ts (used f ts ws) rs)
+    (ranTo f (performed (shown f ts) (operations ss)) ts ws rs)))))
+
+-- on a table with four words a cell
+abbrev pub ran : List ℕ → List ℕ → List ℕ → List ℕ → Ran
+ran ts ws ss rs = ranIn Four ts ws ss rs

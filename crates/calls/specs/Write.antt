@@ -9,6 +9,8 @@ use Rattle.lists.specs.Lst.{Lst}
 use Rattle.pool.specs.Operations.{listOf}
 use Rattle.text.specs.ListText.{textOf, written}
 use Rattle.text.specs.Writing.{usable, judged}
+use Rattle.table.specs.declared.Form.{Form}
+use Rattle.table.specs.declared.Form.the-variants.{Four}
 use Rattle.calls.specs.Entry.{badTable, badWork, noHolder, shown, unsound, used, over}
 
 -- the answer, the bytes written, and the lent words and bytes afterwards; the table is only read
@@ -29,10 +31,14 @@ writeList l ws out =
     (record { answer = DONE; count = length (written l); work = ws; output = over (written l) out })
     (notWritten n ws out)
 
-unfoldable pub writeOut : List ℕ → List ℕ → ℕ → List ℕ → Write
-writeOut ts ws h out =
-    cond (badTable ts) (notWritten TABLE-SIZE ws out)
-    (cond (badWork ts ws) (notWritten WORK-SPACE ws out)
-    (cond (noHolder ts h) (notWritten HOLDER ws out)
-    (cond (unsound ts) (notWritten UNSOUND (used ts ws) out)
-    (writeList (listOf (shown ts) h) (used ts ws) out))))
+unfoldable pub writingIn : Form → List ℕ → List ℕ → ℕ → List ℕ → Write
+writingIn f ts ws h out =
+    cond (badTable f ts) (notWritten TABLE-SIZE ws out)
+    (cond (badWork f ts ws) (notWritten WORK-SPACE ws out)
+    (cond (noHolder f ts h) (notWritten HOLDER ws out)
+    (cond (unsound f ts) (notWritten UNSOUND (used f ts ws) out)
+    (writeList (listOf (shown f ts) h) (used f ts ws) out))))
+
+-- on a table with four words a cell
+abbrev pub writeOut : List ℕ → List ℕ → ℕ → List ℕ → Write
+writeOut ts ws h out = writingIn Four ts ws h out

@@ -1,2 +1,2 @@
 pub mod Range
-pub mod StepLaws
+pub mod laws

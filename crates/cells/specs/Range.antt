@@ -6,13 +6,13 @@ use Prim.Native.Nat.{ℕ, _+_, _*_, _≤_, _<_}
 use native.Mathlib.Omega.{arith}
 use lib.ListN.{length}
 use Rattle.table.specs.declared.Shape.{Shape}
-use Rattle.pool.specs.Advance.{null-or-item, holder-live}
-use Rattle.pool.specs.Bound.{count-bound, count-less}
-use Rattle.pool.specs.Edit.{live-cell, mark-past}
-use Rattle.pool.specs.Held.{Held}
+use Rattle.pool.specs.laws.Advance.{null-or-item, holder-live}
+use Rattle.pool.specs.laws.Bound.{count-bound, count-less}
+use Rattle.pool.specs.laws.Edit.{live-cell, mark-past}
+use Rattle.pool.specs.laws.Held.{Held}
 use Rattle.pool.specs.Operations as operations
 use Rattle.pool.specs.Pool.{Cell, Pool, kindOf, countOf, nextOf, holder, Live, NullOrLive, Chain, mark, Sound}
-use Rattle.pool.specs.SoundLaws.{none-aside, sound-held}
+use Rattle.pool.specs.laws.SoundLaws.{none-aside, sound-held}
 use Rattle.pool.specs.Tally.{same-of, tally, occ}
 use Rattle.table.specs.View.{holderCount, greatestCount, view, Table, IsCell}
 

@@ -2,8 +2,4 @@ pub mod Session
 pub mod Kept
 pub mod Standing
 pub mod Trim
-pub mod FreeLaws
-pub mod SessionLaws
-pub mod ReadLaws
-pub mod WriteLaws
-pub mod StandingLaws
+pub mod laws

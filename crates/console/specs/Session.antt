@@ -7,8 +7,8 @@ use lib.Dec.{eqb}
 use lib.ListN.{getD, replicate}
 use Rattle.answers.specs.Answers.{DONE}
 use Rattle.pool.specs.Pool.{frees}
-use Rattle.table.specs.Limits.{cellsMost, tableWords}
-use Rattle.setup.specs.SetUp.{Given, setUp}
+use Rattle.table.specs.Limits.{cellsMost, holdersMost, tableWords}
+use Rattle.setup.specs.SetUp.{Given, setUpIn}
 use Rattle.calls.specs.Entry.{shown}
 use Rattle.calls.specs.Run.{Ran, ran}
 use Rattle.calls.specs.Read.{Read, readIn}
@@ -20,6 +20,7 @@ use Rattle.text.specs.ListText.{textOf}
 use Rattle.lines.specs.Commands.{Command, malformed, new, operation, reading, writing, command}
 use Rattle.lines.specs.Printed.{lineFeed, reply, question, filled}
 use Rattle.lines.specs.Splitting.{Line, line, long, linesOf}
+use Rattle.table.specs.declared.Form.the-variants.{Four}
 
 -- the words in use after a line, and what it prints
 pub record Turn : Type 0 where
@@ -34,21 +35,21 @@ abbrev pub nothingKind : ℕ
 nothingKind = 3
 
 unfoldable pub freeCells : List ℕ → ℕ
-freeCells ts = frees (shown ts .cells)
+freeCells ts = frees (shown Four ts .cells)
 
 abbrev pub told : List ℕ → ℕ → ℕ → ℕ → Turn
 told ts answer kind value = record { words = ts; printed = reply answer kind value (freeCells ts) }
 
 -- NEW: words for n cells are set up; a refusal keeps the old ones
 abbrev pub opened : ℕ → Given
-opened n = setUp (replicate (tableWords n) 0) n
+opened n = setUpIn Four (replicate (tableWords Four holdersMost n) 0) n
 
 abbrev pub newWords : List ℕ → Given → List ℕ
 newWords ts g = cond (eqb (g .answer) DONE) (g .table) ts
 
 -- an operation: a script of four words, with work space for the largest table; where it is refused the two results stay
 abbrev pub workMost : ℕ
-workMost = 2 * cellsMost
+workMost = 2 * cellsMost Four
 
 abbrev pub performing : List ℕ → ℕ → ℕ → ℕ → ℕ → Ran
 performing ts c a b v = ran ts (replicate workMost 0) (c ∷ a ∷ b ∷ v ∷ []) (nothingKind ∷ 0 ∷ [])
@@ -78,7 +79,7 @@ does ts malformed = asked ts
 does ts (new n) = told (newWords ts (opened n)) (opened n .answer) nothingKind 0
 does ts (operation c a b v) = after (performing ts c a b v)
 does ts (reading h xs) = took (readingOf ts h xs)
-does ts (writing h) = shows ts (writingOf ts h .answer) (listOf (shown ts) h)
+does ts (writing h) = shows ts (writingOf ts h .answer) (listOf (shown Four ts) h)
 
 abbrev pub answered : List ℕ → Line → Turn
 answered ts long = asked ts

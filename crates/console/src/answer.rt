@@ -2,7 +2,8 @@
 ghost use mathlib.Core.Path.{_≡_};
 ghost use Prim.Native.Nat.{_*_, _+_, _≤_};
 ghost use lib.ListN.{length, take, drop};
-ghost use Rattle.table.specs.Limits.{cellsMost, tableWords};
+ghost use Rattle.table.specs.Limits.{cellsMost, holdersMost, tableWords};
+ghost use Rattle.table.specs.declared.Form.the-variants.{Four};
 ghost use Rattle.lines.specs.Commands.{new, operation, reading, writing};
 ghost use Rattle.lines.specs.Numbers.{digitsMost};
 ghost use Rattle.lines.specs.Printed.{reply, question};
@@ -21,7 +22,9 @@ use lines::printed::put_question;
 use lines::printed::put_reply;
 use scan::limits::Record;
 use table::Cell;
+use table::Form;
 use table::Holder;
+use table::Shape;
 
 // The answer of NEW, and the number of words in use after it.
 pub struct Opened {
@@ -53,12 +56,17 @@ fn ask(out: &mut [u8]) -> usize
 }
 
 fn open_table(table: &mut [u32], used: usize, n: u32) -> Opened
-    requires { ⌜ length (now table) ≡ tableWords cellsMost ⌝ }
+    requires { ⌜ length (now table) ≡ tableWords Four holdersMost (cellsMost Four) ⌝ }
     requires { ⌜ used ≤ length (now table) ⌝ }
     ensures { λ r. ⌜ Opens (take used (now (table .entry))) n r (now (table .exit)) ⌝ }
 {
     let words = Holder::AT + Holder::MOST + Cell::WORDS * n as usize;
-    if !table::fits(n as usize, words) {
+    let s = Shape {
+        form: Form::Four,
+        cells: n as usize,
+        holders: Holder::MOST,
+    };
+    if !table::fits(s, words) {
         return Opened {
             answer: Answer::TABLE_SIZE,
             used,
@@ -72,7 +80,7 @@ fn open_table(table: &mut [u32], used: usize, n: u32) -> Opened
 }
 
 fn do_new(table: &mut [u32], used: usize, out: &mut [u8], n: u32) -> Answered
-    requires { ⌜ (length (now table) ≡ tableWords cellsMost) × (used ≤ length (now table)) ⌝ }
+    requires { ⌜ (length (now table) ≡ tableWords Four holdersMost (cellsMost Four)) × (used ≤ length (now table)) ⌝ }
     requires { ⌜ 4 * (digitsMost + 1) ≤ length (now out) ⌝ }
     ensures { λ r. ⌜ Turns (does (take used (now (table .entry))) (new n)) r (now (table .exit)) (now (out .exit)) ⌝ }
 {

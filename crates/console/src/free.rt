@@ -5,6 +5,7 @@ ghost use Rattle.pool.specs.Pool.{frees};
 ghost use Rattle.pool.specs.Tally.{same};
 ghost use Rattle.table.specs.View.{view, Table};
 ghost use Rattle.console.specs.Session.{freeCells};
+use table::Form;
 use table::Shape;
 
 fn one_if_free(count: usize) -> u32
@@ -34,9 +35,9 @@ fn count_free(s: Shape, t: &[u32]) -> u32
 pub fn free_cells(t: &[u32]) -> u32
     ensures { λ r. ⌜ r ≡ freeCells (now (t .entry)) ⌝ }
 {
-    let n = table::cells_of(t);
-    if n == 0 {
+    let s = table::shape_of(Form::Four, t);
+    if s.cells == 0 {
         return 0;
     }
-    count_free(Shape { cells: n }, t)
+    count_free(s, t)
 }

@@ -8,11 +8,11 @@ use lib.ListN.{length}
 use Rattle.table.specs.declared.Shape.{Shape}
 use Rattle.erasing.specs.declared.Erasing.{Erasing}
 use Rattle.loops.specs.Loop.{choose, steps, Ends, Going}
-use Rattle.pool.specs.Drop.{stepped}
+use Rattle.pool.specs.laws.Drop.{stepped}
 use Rattle.pool.specs.Erase.{Dropping, total, dropped}
-use Rattle.pool.specs.Held.{Held}
+use Rattle.pool.specs.laws.Held.{Held}
 use Rattle.pool.specs.Pool.{Pool, countOf}
-use Rattle.pool.specs.SoundLaws.{none-aside}
+use Rattle.pool.specs.laws.SoundLaws.{none-aside}
 use Rattle.pool.specs.Tally.{same}
 use Rattle.table.specs.View.{greatestCount, view, Table}
 

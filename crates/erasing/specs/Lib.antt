@@ -1,6 +1,2 @@
 pub mod Erasing
-pub mod StepLaws
-pub mod LaterLaws
-pub mod Counts
-pub mod Ends
-pub mod AdvanceLaws
+pub mod laws

@@ -3,9 +3,4 @@ pub mod Commands
 pub mod Printed
 pub mod Splitting
 pub mod Meaning
-pub mod NumberLaws
-pub mod CommandLaws
-pub mod PrintedLaws
-pub mod SplittingLaws
-pub mod GatherLaws
-pub mod RecordLaws
+pub mod laws

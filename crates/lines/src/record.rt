@@ -7,7 +7,7 @@ ghost use Rattle.lines.specs.Numbers.{blank};
 ghost use Rattle.lines.specs.Printed.{filled};
 ghost use Rattle.lines.specs.Splitting.{lineMost};
 ghost use Rattle.lines.specs.Meaning.{Puts};
-ghost use Rattle.lines.specs.RecordLaws.{filledLength};
+ghost use Rattle.lines.specs.laws.RecordLaws.{filledLength};
 use scan::limits::Record;
 
 fn byte_or_blank(line: &[u8], i: usize) -> u8

@@ -1,2 +1,2 @@
 pub mod Lst
-pub mod LstLaws
+pub mod laws

@@ -1,7 +1,3 @@
 pub mod Replies
 pub mod Tests
-pub mod WordLaws
-pub mod TestLaws
-pub mod GivesLaws
-pub mod ReplyLaws
-pub mod Freed
+pub mod laws

@@ -7,7 +7,7 @@ ghost use Rattle.ops.specs.Replies.{operation, Gives};
 ghost use Rattle.ops.specs.Tests.{early};
 ghost use Rattle.pool.specs.Pool.{Sound};
 ghost use Rattle.pool.specs.Script.{PFA, LENGTH, usesB};
-ghost use Rattle.pool.specs.ScriptLaws.{Opened};
+ghost use Rattle.pool.specs.laws.ScriptLaws.{Opened};
 ghost use Rattle.table.specs.View.{holderCount, view, Table};
 
 pub mod drop;

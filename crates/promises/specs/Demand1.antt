@@ -15,6 +15,7 @@ use Rattle.promises.specs.Engine.{Engine}
 use Rattle.promises.specs.Rows.{Row, First, Answers, None}
 use Rattle.promises.specs.Grounds.{cellsTold, setUpRows, runRows, operationRows}
 use Rattle.promises.specs.TextGrounds.{readRows, writeRows, checkRows}
+use Rattle.table.specs.declared.Form.{Form}
 
 -- four words of a script
 abbrev pub wordsOf : Operation → List ℕ
@@ -26,24 +27,24 @@ alone E ws ts o = E .run ts ws (wordsOf o) (0 ∷ 0 ∷ [])
 
 -- from the table ts the operations give this answer, this number of them done, this table and these results:
 -- each is answered by its rows, and one that is refused ends it
-pub data Stops (E : Engine) (ws : List ℕ) : List ℕ → List Operation → ℕ → ℕ → List ℕ → List ℕ → Type 0 where
-  end : {ts : List ℕ} → Stops E ws ts [] DONE 0 ts []
-  refused : {ts : List ℕ} {o : Operation} {os : List Operation} {n : ℕ} → Answers (operationRows (shown ts) o) n → n ≢ DONE → Stops E ws ts (o ∷ os) n 0 ts []
-  done : {ts us qs : List ℕ} {o : Operation} {os : List Operation} {n k : ℕ} → Answers (operationRows (shown ts) o) DONE
-      → Stops E ws (alone E ws ts o .table) os n k us qs → Stops E ws ts (o ∷ os) n (suc k) us (alone E ws ts o .results ++ qs)
+pub data Stops (form : Form) (E : Engine) (ws : List ℕ) : List ℕ → List Operation → ℕ → ℕ → List ℕ → List ℕ → Type 0 where
+  end : {ts : List ℕ} → Stops form E ws ts [] DONE 0 ts []
+  refused : {ts : List ℕ} {o : Operation} {os : List Operation} {n : ℕ} → Answers (operationRows (shown form ts) o) n → n ≢ DONE → Stops form E ws ts (o ∷ os) n 0 ts []
+  done : {ts us qs : List ℕ} {o : Operation} {os : List Operation} {n k : ℕ} → Answers (operationRows (shown form ts) o) DONE
+      → Stops form E ws (alone E ws ts o .table) os n k us qs → Stops form E ws ts (o ∷ os) n (suc k) us (alone E ws ts o .results ++ qs)
 
 -- the answer of each call is that of its rows
-abbrev pub SetUpRefusals : Engine → Type 0
-SetUpRefusals E = (ts : List ℕ) (n : ℕ) → Answers (setUpRows ts n) (E .setUp ts n .answer)
+abbrev pub SetUpRefusals : (form : Form) → Engine → Type 0
+SetUpRefusals form E = (ts : List ℕ) (n : ℕ) → Answers (setUpRows form ts n) (E .setUp ts n .answer)
 
-abbrev pub RunRefusals : Engine → Type 0
-RunRefusals E = (ts ws ss rs : List ℕ) → First (runRows ts ws ss rs) (λ n. Unit {0}) (E .run ts ws ss rs .answer)
+abbrev pub RunRefusals : (form : Form) → Engine → Type 0
+RunRefusals form E = (ts ws ss rs : List ℕ) → First (runRows form ts ws ss rs) (λ n. Unit {0}) (E .run ts ws ss rs .answer)
 
-abbrev pub ReadRefusals : Engine → Type 0
-ReadRefusals E = (ts ws : List ℕ) (h : ℕ) (xs : List ℕ) → Answers (readRows ts ws h xs) (E .read ts ws h xs .answer)
+abbrev pub ReadRefusals : (form : Form) → Engine → Type 0
+ReadRefusals form E = (ts ws : List ℕ) (h : ℕ) (xs : List ℕ) → Answers (readRows form ts ws h xs) (E .read ts ws h xs .answer)
 
-abbrev pub WriteRefusals : Engine → Type 0
-WriteRefusals E = (ts ws : List ℕ) (h : ℕ) (out : List ℕ) → Answers (writeRows ts ws h out) (E .write ts ws h out .answer)
+abbrev pub WriteRefusals : (form : Form) → Engine → Type 0
+WriteRefusals form E = (ts ws : List ℕ) (h : ℕ) (out : List ℕ) → Answers (writeRows form ts ws h out) (E .write ts ws h out .answer)
 
 abbrev pub CheckRefusals : Engine → Type 0
 CheckRefusals E = (xs : List ℕ) → Answers (checkRows xs) (E .check xs .no)
@@ -52,8 +53,8 @@ CheckRefusals E = (xs : List ℕ) → Answers (checkRows xs) (E .check xs .no)
 abbrev pub RefusedSetUp : Engine → Type 0
 RefusedSetUp E = (ts : List ℕ) (n : ℕ) → E .setUp ts n .answer ≢ DONE → E .setUp ts n .table ≡ ts
 
-abbrev pub RefusedRun : Engine → Type 0
-RefusedRun E = (ts ws ss rs : List ℕ) → (None (runRows ts ws ss rs) → ⊥) → let r = E .run ts ws ss rs in (r .table ≡ ts) × (r .results ≡ rs) × (r .count ≡ 0)
+abbrev pub RefusedRun : (form : Form) → Engine → Type 0
+RefusedRun form E = (ts ws ss rs : List ℕ) → (None (runRows form ts ws ss rs) → ⊥) → let r = E .run ts ws ss rs in (r .table ≡ ts) × (r .results ≡ rs) × (r .count ≡ 0)
 
 abbrev pub RefusedRead : Engine → Type 0
 RefusedRead E = (ts ws : List ℕ) (h : ℕ) (xs : List ℕ) → let r = E .read ts ws h xs in r .answer ≢ DONE → (r .table ≡ ts) × (r .count ≡ 0)
@@ -69,33 +70,33 @@ abbrev pub WorkSpace : List Row → List ℕ → List ℕ → List ℕ → Type 
 WorkSpace rows ts ws vs = ((None rows → ⊥) → vs ≡ ws) × (None rows → vs ≡ cleared (2 * cellsTold ts) ws)
 
 -- the rows that leave it untouched: 1 to 4 of a run, 1, 2, 7, 13 and 14 of reading, 1, 2 and 7 of writing
-abbrev pub RunWork : Engine → Type 0
-RunWork E = (ts ws ss rs : List ℕ) → WorkSpace (take 4 (runRows ts ws ss rs)) ts ws (E .run ts ws ss rs .work)
+abbrev pub RunWork : (form : Form) → Engine → Type 0
+RunWork form E = (ts ws ss rs : List ℕ) → WorkSpace (take 4 (runRows form ts ws ss rs)) ts ws (E .run ts ws ss rs .work)
 
-abbrev pub ReadWork : Engine → Type 0
-ReadWork E = (ts ws : List ℕ) (h : ℕ) (xs : List ℕ) → WorkSpace (take 5 (readRows ts ws h xs)) ts ws (E .read ts ws h xs .work)
+abbrev pub ReadWork : (form : Form) → Engine → Type 0
+ReadWork form E = (ts ws : List ℕ) (h : ℕ) (xs : List ℕ) → WorkSpace (take 5 (readRows form ts ws h xs)) ts ws (E .read ts ws h xs .work)
 
-abbrev pub WriteWork : Engine → Type 0
-WriteWork E = (ts ws : List ℕ) (h : ℕ) (out : List ℕ) → WorkSpace (take 3 (writeRows ts ws h out)) ts ws (E .write ts ws h out .work)
+abbrev pub WriteWork : (form : Form) → Engine → Type 0
+WriteWork form E = (ts ws : List ℕ) (h : ℕ) (out : List ℕ) → WorkSpace (take 3 (writeRows form ts ws h out)) ts ws (E .write ts ws h out .work)
 
 -- a script that passes its first rows is its operations one by one, up to one that is refused
-abbrev pub ScriptsStop : Engine → Type 0
-ScriptsStop E =
-    (ts ws ss rs : List ℕ) → None (runRows ts ws ss rs) → let r = E .run ts ws ss rs in
-    (qs : List ℕ) × Stops E ws ts (operations ss) (r .answer) (r .count) (r .table) qs × (r .results ≡ over qs rs)
+abbrev pub ScriptsStop : (form : Form) → Engine → Type 0
+ScriptsStop form E =
+    (ts ws ss rs : List ℕ) → None (runRows form ts ws ss rs) → let r = E .run ts ws ss rs in
+    (qs : List ℕ) × Stops form E ws ts (operations ss) (r .answer) (r .count) (r .table) qs × (r .results ≡ over qs rs)
 
-pub record Demand1 (E : Engine) : Type 0 where
-  pub set-up-refusals : SetUpRefusals E
-  pub run-refusals : RunRefusals E
-  pub read-refusals : ReadRefusals E
-  pub write-refusals : WriteRefusals E
+pub record Demand1 (form : Form) (E : Engine) : Type 0 where
+  pub set-up-refusals : SetUpRefusals form E
+  pub run-refusals : RunRefusals form E
+  pub read-refusals : ReadRefusals form E
+  pub write-refusals : WriteRefusals form E
   pub check-refusals : CheckRefusals E
   pub refused-set-up : RefusedSetUp E
-  pub refused-run : RefusedRun E
+  pub refused-run : RefusedRun form E
   pub refused-read : RefusedRead E
   pub refused-write : RefusedWrite E
   pub refused-check : RefusedCheck E
-  pub run-work : RunWork E
-  pub read-work : ReadWork E
-  pub write-work : WriteWork E
-  pub scripts-stop : ScriptsStop E
+  pub run-work : RunWork form E
+  pub read-work : ReadWork form E
+  pub write-work : WriteWork form E
+  pub scripts-stop : ScriptsStop form E

@@ -11,7 +11,8 @@ use Rattle.lists.specs.Lst.{Lst, order, extent}
 use Rattle.pool.specs.Tally.{occ}
 use Rattle.pool.specs.Pool.{holder, frees, Sound}
 use Rattle.pool.specs.Script.{Operation}
-use Rattle.table.specs.Limits.{holdersMost}
+use Rattle.table.specs.Limits.{packs, head, holdersMost, holdersTold}
+use Rattle.table.specs.View.{cellWord}
 use Rattle.text.specs.Limits.{levels, recordBytes}
 use Rattle.text.specs.ListText.{textOf, fill, bare}
 use Rattle.text.specs.Writing.{usable}
@@ -23,10 +24,11 @@ use Rattle.promises.specs.TextGrounds.{Has, TakesRecords}
 use Rattle.promises.specs.Machine.{Lists, assign, turn, says, turnAll, Says}
 use Rattle.promises.specs.Demand1.{wordsOf}
 use Rattle.promises.specs.Cells.{OperationsUseTheirCells, ReadingUsesItsCells, BorrowShares, PrefixTakesHead, DecapFreesToHead, LiveCellsStay}
+use Rattle.table.specs.declared.Form.{Form}
 
 -- the holders of a table have these lists
-abbrev pub Holds : List ℕ → Lists → Type 0
-Holds ts m = (i : ℕ) → Has ts i (m i)
+abbrev pub Holds : (form : Form) → List ℕ → Lists → Type 0
+Holds form ts m = (i : ℕ) → Has form ts i (m i)
 
 -- the text of a list with its last record filled
 abbrev pub filled : List ℕ → List ℕ
@@ -50,51 +52,52 @@ abbrev pub Words : List ℕ → Type 0
 Words ts = (i : ℕ) → getD ts i 0 < 2 ^ 32
 
 -- a sound table lent with work space enough
-pub record Ready (ts ws : List ℕ) : Type 0 where
-  pub table : BadTable ts → ⊥
+pub record Ready (form : Form) (ts ws : List ℕ) : Type 0 where
+  pub table : BadTable form ts → ⊥
   pub work : 2 * cellsTold ts ≤ length ws
-  pub sound : Sound (shown ts)
+  pub sound : Sound (shown form ts)
 
--- word k of cell c: T, E, R, S
-abbrev pub cellWord : ℕ → ℕ → ℕ
-cellWord c k = 62 + 4 * c + k
+-- field k of cell i + 1 of n: T, E, R, S
+abbrev pub fieldIn : (form : Form) → ℕ → ℕ → List ℕ → ℕ
+fieldIn form i k us = cellWord (packs form) (head form + holdersMost) k us i
 
 -- the words of n cells set up: the first free cell is 1, cell c is followed by c + 1, the last by 0, and all other words are 0
-pub record NewWords (n : ℕ) (us : List ℕ) : Type 0 where
+pub record NewWords (form : Form) (n : ℕ) (us : List ℕ) : Type 0 where
   pub cells : getD us 0 0 ≡ n
   pub free : getD us 1 0 ≡ 1
-  pub holders : (h : ℕ) → h < holdersMost → getD us (2 + h) 0 ≡ 0
-  pub empty : (c k : ℕ) → 1 ≤ c → c ≤ n → k < 3 → getD us (cellWord c k) 0 ≡ 0
-  pub next : (c : ℕ) → 1 ≤ c → c < n → getD us (cellWord c 3) 0 ≡ c + 1
-  pub last : getD us (cellWord n 3) 0 ≡ 0
+  pub told : holdersTold form us ≡ holdersMost
+  pub holders : (h : ℕ) → h < holdersMost → getD us (head form + h) 0 ≡ 0
+  pub empty : (i k : ℕ) → i < n → k < 3 → fieldIn form i k us ≡ 0
+  pub next : (i : ℕ) → i + 1 < n → fieldIn form i 3 us ≡ i + 2
+  pub last : (i : ℕ) → i + 1 ≡ n → fieldIn form i 3 us ≡ 0
 
-abbrev pub SetUpGives : Engine → Type 0
-SetUpGives E = (ts : List ℕ) (n : ℕ) → let g = E .setUp ts n in g .answer ≡ DONE → (length (g .table) ≡ length ts) × NewWords n (g .table)
+abbrev pub SetUpGives : (form : Form) → Engine → Type 0
+SetUpGives form E = (ts : List ℕ) (n : ℕ) → let g = E .setUp ts n in g .answer ≡ DONE → (length (g .table) ≡ length ts) × NewWords form n (g .table)
 
 -- an operation that is done
-abbrev pub OperationsGive : Engine → Type 0
-OperationsGive E =
-    (ts ws rs : List ℕ) (o : Operation) (m : Lists) → Holds ts m → let r = E .run ts ws (wordsOf o) rs in
-    r .answer ≡ DONE → Holds (r .table) (turn m o) × ((n : ℕ) × (r .results ≡ over (says m o n) rs))
+abbrev pub OperationsGive : (form : Form) → Engine → Type 0
+OperationsGive form E =
+    (ts ws rs : List ℕ) (o : Operation) (m : Lists) → Holds form ts m → let r = E .run ts ws (wordsOf o) rs in
+    r .answer ≡ DONE → Holds form (r .table) (turn m o) × ((n : ℕ) × (r .results ≡ over (says m o n) rs))
 
 -- holders that it does not use
-abbrev pub OthersStay : Engine → Type 0
-OthersStay E =
-    (ts ws rs : List ℕ) (o : Operation) (m : Lists) → Holds ts m → let r = E .run ts ws (wordsOf o) rs in
-    r .answer ≡ DONE → (i : ℕ) → i ≢ o .a → (UsesB (o .code) → i ≢ o .b) → Has (r .table) i (m i)
+abbrev pub OthersStay : (form : Form) → Engine → Type 0
+OthersStay form E =
+    (ts ws rs : List ℕ) (o : Operation) (m : Lists) → Holds form ts m → let r = E .run ts ws (wordsOf o) rs in
+    r .answer ≡ DONE → (i : ℕ) → i ≢ o .a → (UsesB (o .code) → i ≢ o .b) → Has form (r .table) i (m i)
 
 -- a whole script, up to where it stops
-abbrev pub ScriptsGive : Engine → Type 0
-ScriptsGive E =
-    (ts ws ss rs : List ℕ) (m : Lists) → Holds ts m → let r = E .run ts ws ss rs in
+abbrev pub ScriptsGive : (form : Form) → Engine → Type 0
+ScriptsGive form E =
+    (ts ws ss rs : List ℕ) (m : Lists) → Holds form ts m → let r = E .run ts ws ss rs in
     let os = take (r .count) (operations ss) in
-    Holds (r .table) (turnAll m os) × ((qs : List ℕ) × Says m os qs × (r .results ≡ over qs rs))
+    Holds form (r .table) (turnAll m os) × ((qs : List ℕ) × Says m os qs × (r .results ≡ over qs rs))
 
 -- reading gives the list of the text, and the bytes taken; so does the text check
-abbrev pub ReadingGives : Engine → Type 0
-ReadingGives E =
-    (ts ws : List ℕ) (h : ℕ) (xs : List ℕ) (m : Lists) → Holds ts m → let r = E .read ts ws h xs in
-    r .answer ≡ DONE → (l : Lst) × (t : List ℕ) × Records xs (r .count) t × (textOf l ≡ plain t) × Holds (r .table) (assign m h l)
+abbrev pub ReadingGives : (form : Form) → Engine → Type 0
+ReadingGives form E =
+    (ts ws : List ℕ) (h : ℕ) (xs : List ℕ) (m : Lists) → Holds form ts m → let r = E .read ts ws h xs in
+    r .answer ≡ DONE → (l : Lst) × (t : List ℕ) × Records xs (r .count) t × (textOf l ≡ plain t) × Holds form (r .table) (assign m h l)
 
 abbrev pub CheckingGives : Engine → Type 0
 CheckingGives E = (xs : List ℕ) → let r = E .check xs in r .no ≡ DONE → (l : Lst) × (t : List ℕ) × Records xs (r .taken) t × (textOf l ≡ plain t)
@@ -111,20 +114,20 @@ abbrev pub RestGives : Engine → Type 0
 RestGives E = (xs : List ℕ) → let r = E .check xs in (r .no ≡ DONE → E .rest xs ≡ drop (r .taken) xs) × (r .no ≢ DONE → E .rest xs ≡ [])
 
 -- writing gives the text of the list, and the bytes written
-abbrev pub WritingGives : Engine → Type 0
-WritingGives E =
-    (ts ws : List ℕ) (h : ℕ) (out : List ℕ) (l : Lst) → Has ts h l → let r = E .write ts ws h out in
+abbrev pub WritingGives : (form : Form) → Engine → Type 0
+WritingGives form E =
+    (ts ws : List ℕ) (h : ℕ) (out : List ℕ) (l : Lst) → Has form ts h l → let r = E .write ts ws h out in
     r .answer ≡ DONE → (r .output ≡ over (filled (textOf l)) out) × (r .count ≡ length (filled (textOf l)))
 
 -- a list that is written is read again as itself, if the output takes its text and the pool has its cells
-abbrev pub WrittenReadsBack : Engine → Type 0
-WrittenReadsBack E =
-    (ts ws out us vs : List ℕ) (h k : ℕ) (l : Lst) → Words ts → Ready ts ws → h < holdersMost → Has ts h l
+abbrev pub WrittenReadsBack : (form : Form) → Engine → Type 0
+WrittenReadsBack form E =
+    (ts ws out us vs : List ℕ) (h k : ℕ) (l : Lst) → Words ts → Ready form ts ws → h < length (shown form ts .holders) → Has form ts h l
     → order l ≤ levels → length (textOf l) ≤ usable (length out)
-    → Ready us vs → k < holdersMost → holder (shown us) k ≡ 0 → extent l ≤ frees (shown us .cells)
+    → Ready form us vs → k < length (shown form us .holders) → holder (shown form us) k ≡ 0 → extent l ≤ frees (shown form us .cells)
     → let w = E .write ts ws h out in
     let r = E .read us vs k (take (w .count) (w .output)) in
-    (w .answer ≡ DONE) × (r .answer ≡ DONE) × (r .count ≡ w .count) × Has (r .table) k l
+    (w .answer ≡ DONE) × (r .answer ≡ DONE) × (r .count ≡ w .count) × Has form (r .table) k l
 
 -- a text that is read is written again without its leading zeros, and filled anew
 abbrev pub ReadWritesBack : Engine → Type 0
@@ -134,22 +137,22 @@ ReadWritesBack E =
     → let w = E .write (r .table) vs h out in
     (w .answer ≡ DONE) × (w .output ≡ over (filled (plain t)) out)
 
-pub record Demand2 (E : Engine) : Type 0 where
-  pub set-up-gives : SetUpGives E
-  pub operations-give : OperationsGive E
-  pub operations-use-their-cells : OperationsUseTheirCells E
-  pub borrow-shares : BorrowShares E
-  pub prefix-takes-head : PrefixTakesHead E
-  pub decap-frees-to-head : DecapFreesToHead E
-  pub live-cells-stay : LiveCellsStay E
-  pub others-stay : OthersStay E
-  pub scripts-give : ScriptsGive E
-  pub reading-gives : ReadingGives E
-  pub reading-uses-its-cells : ReadingUsesItsCells E
+pub record Demand2 (form : Form) (E : Engine) : Type 0 where
+  pub set-up-gives : SetUpGives form E
+  pub operations-give : OperationsGive form E
+  pub operations-use-their-cells : OperationsUseTheirCells form E
+  pub borrow-shares : BorrowShares form E
+  pub prefix-takes-head : PrefixTakesHead form E
+  pub decap-frees-to-head : DecapFreesToHead form E
+  pub live-cells-stay : LiveCellsStay form E
+  pub others-stay : OthersStay form E
+  pub scripts-give : ScriptsGive form E
+  pub reading-gives : ReadingGives form E
+  pub reading-uses-its-cells : ReadingUsesItsCells form E
   pub checking-gives : CheckingGives E
   pub checking-takes : CheckingTakes E
   pub reading-takes : ReadingTakes E
   pub rest-gives : RestGives E
-  pub writing-gives : WritingGives E
-  pub written-reads-back : WrittenReadsBack E
+  pub writing-gives : WritingGives form E
+  pub written-reads-back : WrittenReadsBack form E
   pub read-writes-back : ReadWritesBack E

@@ -9,11 +9,10 @@ use Rattle.answers.specs.Answers.{DONE, NO-ROOM}
 use Rattle.lists.specs.Lst.{Lst, extent}
 use Rattle.pool.specs.Tally.{occ}
 use Rattle.pool.specs.Pool.{Pool, countOf, holder, InPool, Walk, Chain, Sound}
-use Rattle.pool.specs.Held.{into}
-use Rattle.pool.specs.Number.{Number}
-use Rattle.pool.specs.SoundLaws.{Reaches}
+use Rattle.pool.specs.laws.Held.{into}
+use Rattle.pool.specs.laws.Number.{Number}
+use Rattle.pool.specs.laws.SoundLaws.{Reaches}
 use Rattle.pool.specs.Script.{ERASE, Operation}
-use Rattle.table.specs.Limits.{holdersMost}
 use Rattle.text.specs.Marks.{listIn}
 use Rattle.calls.specs.Entry.{shown}
 use Rattle.promises.specs.Engine.{Engine, Reached}
@@ -21,6 +20,7 @@ use Rattle.promises.specs.Rows.{None}
 use Rattle.promises.specs.Grounds.{NoHolder, BadTable, BadWork, Needs, beforeRoom}
 use Rattle.promises.specs.TextGrounds.{Has, sizeRows, faultRows}
 use Rattle.promises.specs.Demand1.{wordsOf}
+use Rattle.table.specs.declared.Form.{Form}
 
 -- the arrows that end at a cell: of holders, and of cells that are not free
 abbrev pub arrows : Pool → ℕ → ℕ
@@ -32,7 +32,7 @@ Free p c = (fs : List ℕ) × Chain (p .cells) (p .free) fs × (0 < occ fs c)
 
 -- some holder reaches c
 abbrev pub Used : Pool → ℕ → Type 0
-Used p c = (h : ℕ) × (h < holdersMost) × Reaches p h c
+Used p c = (h : ℕ) × (h < length (p .holders)) × Reaches p h c
 
 -- holder a reaches c and no other holder does
 abbrev pub OnlyBy : Pool → ℕ → ℕ → Type 0
@@ -42,62 +42,62 @@ OnlyBy p a c = Reaches p a c × ((i : ℕ) → i ≢ a → Reaches p i c → ⊥
 abbrev pub erasing : ℕ → ℕ → ℕ → List ℕ
 erasing a b v = ERASE ∷ a ∷ b ∷ v ∷ []
 
-abbrev pub CountsAreArrows : Engine → Type 0
-CountsAreArrows E = (ts : List ℕ) → Reached E ts → (c : ℕ) → InPool (shown ts .cells) c → countOf (shown ts .cells) c ≡ arrows (shown ts) c
+abbrev pub CountsAreArrows : (form : Form) → Engine → Type 0
+CountsAreArrows form E = (ts : List ℕ) → Reached E ts → (c : ℕ) → InPool (shown form ts .cells) c → countOf (shown form ts .cells) c ≡ arrows (shown form ts) c
 
-abbrev pub NoListContainsItself : Engine → Type 0
-NoListContainsItself E = (ts : List ℕ) → Reached E ts → (c n : ℕ) → Walk (shown ts .cells) (suc n) c c → ⊥
+abbrev pub NoListContainsItself : (form : Form) → Engine → Type 0
+NoListContainsItself form E = (ts : List ℕ) → Reached E ts → (c n : ℕ) → Walk (shown form ts .cells) (suc n) c c → ⊥
 
 -- so each holder has a list
-abbrev pub HoldersHaveLists : Engine → Type 0
-HoldersHaveLists E = (ts : List ℕ) → Reached E ts → (h : ℕ) → (l : Lst) × Has ts h l
+abbrev pub HoldersHaveLists : (form : Form) → Engine → Type 0
+HoldersHaveLists form E = (ts : List ℕ) → Reached E ts → (h : ℕ) → (l : Lst) × Has form ts h l
 
-abbrev pub FreeOrReached : Engine → Type 0
-FreeOrReached E = (ts : List ℕ) → Reached E ts → (c : ℕ) → InPool (shown ts .cells) c → Free (shown ts) c ⊎ Used (shown ts) c
+abbrev pub FreeOrReached : (form : Form) → Engine → Type 0
+FreeOrReached form E = (ts : List ℕ) → Reached E ts → (c : ℕ) → InPool (shown form ts .cells) c → Free (shown form ts) c ⊎ Used (shown form ts) c
 
-abbrev pub NeverBoth : Engine → Type 0
-NeverBoth E = (ts : List ℕ) → Reached E ts → (c : ℕ) → InPool (shown ts .cells) c → Free (shown ts) c → Used (shown ts) c → ⊥
+abbrev pub NeverBoth : (form : Form) → Engine → Type 0
+NeverBoth form E = (ts : List ℕ) → Reached E ts → (c : ℕ) → InPool (shown form ts .cells) c → Free (shown form ts) c → Used (shown form ts) c → ⊥
 
 -- what becomes free with an ERASE that is done: the cells that only this holder reached; and its number counts them
-abbrev pub EraseFrees : Engine → Type 0
-EraseFrees E =
+abbrev pub EraseFrees : (form : Form) → Engine → Type 0
+EraseFrees form E =
     (ts ws rs : List ℕ) (a b v : ℕ) → let r = E .run ts ws (erasing a b v) rs in
-    r .answer ≡ DONE → (c : ℕ) → InPool (shown ts .cells) c → ((Free (shown ts) c → ⊥) × Free (shown (r .table)) c) ↔ OnlyBy (shown ts) a c
+    r .answer ≡ DONE → (c : ℕ) → InPool (shown form ts .cells) c → ((Free (shown form ts) c → ⊥) × Free (shown form (r .table)) c) ↔ OnlyBy (shown form ts) a c
 
-abbrev pub EraseCounts : Engine → Type 0
-EraseCounts E =
+abbrev pub EraseCounts : (form : Form) → Engine → Type 0
+EraseCounts form E =
     (ts ws rs : List ℕ) (a b v : ℕ) → let r = E .run ts ws (erasing a b v) rs in
-    r .answer ≡ DONE → (getD (r .results) 0 0 ≡ 2) × Number (OnlyBy (shown ts) a) (length (shown ts .cells)) (getD (r .results) 1 0)
+    r .answer ≡ DONE → (getD (r .results) 0 0 ≡ 2) × Number (OnlyBy (shown form ts) a) (length (shown form ts .cells)) (getD (r .results) 1 0)
 
 -- the cells reached can be counted
-abbrev pub ReachedCounted : Engine → Type 0
-ReachedCounted E = (ts : List ℕ) → Reached E ts → (k : ℕ) × Number (Used (shown ts)) (length (shown ts .cells)) k
+abbrev pub ReachedCounted : (form : Form) → Engine → Type 0
+ReachedCounted form E = (ts : List ℕ) → Reached E ts → (k : ℕ) × Number (Used (shown form ts)) (length (shown form ts .cells)) k
 
 -- a table that the engine's calls can make, or any sound one of a right size
-abbrev pub Lent : Engine → List ℕ → Type 0
-Lent E ts = Reached E ts ⊎ ((BadTable ts → ⊥) × Sound (shown ts))
+abbrev pub Lent : (form : Form) → Engine → List ℕ → Type 0
+Lent form E ts = Reached E ts ⊎ ((BadTable form ts → ⊥) × Sound (shown form ts))
 
 -- where all rows before it are passed, NO ROOM tells that reached and needed cells are together more than there are
-abbrev pub NoRoomToPerform : Engine → Type 0
-NoRoomToPerform E =
-    (ts ws rs : List ℕ) (o : Operation) (k n : ℕ) → Lent E ts → (BadWork ts ws → ⊥) → 2 ≤ length rs → None (beforeRoom (shown ts) o)
-    → Number (Used (shown ts)) (length (shown ts .cells)) k → Needs (shown ts) o n
-    → (E .run ts ws (wordsOf o) rs .answer ≡ NO-ROOM) ↔ (length (shown ts .cells) < k + n)
+abbrev pub NoRoomToPerform : (form : Form) → Engine → Type 0
+NoRoomToPerform form E =
+    (ts ws rs : List ℕ) (o : Operation) (k n : ℕ) → Lent form E ts → (BadWork ts ws → ⊥) → 2 ≤ length rs → None (beforeRoom (shown form ts) o)
+    → Number (Used (shown form ts)) (length (shown form ts .cells)) k → Needs (shown form ts) o n
+    → (E .run ts ws (wordsOf o) rs .answer ≡ NO-ROOM) ↔ (length (shown form ts .cells) < k + n)
 
-abbrev pub NoRoomToRead : Engine → Type 0
-NoRoomToRead E =
-    (ts ws : List ℕ) (h : ℕ) (xs : List ℕ) (k : ℕ) → Lent E ts → (BadWork ts ws → ⊥) → (NoHolder h → ⊥) → None (sizeRows xs) → holder (shown ts) h ≡ 0 → None (faultRows xs)
-    → Number (Used (shown ts)) (length (shown ts .cells)) k
-    → (E .read ts ws h xs .answer ≡ NO-ROOM) ↔ (length (shown ts .cells) < k + extent (listIn xs))
+abbrev pub NoRoomToRead : (form : Form) → Engine → Type 0
+NoRoomToRead form E =
+    (ts ws : List ℕ) (h : ℕ) (xs : List ℕ) (k : ℕ) → Lent form E ts → (BadWork ts ws → ⊥) → (NoHolder (shown form ts) h → ⊥) → None (sizeRows xs) → holder (shown form ts) h ≡ 0 → None (faultRows xs)
+    → Number (Used (shown form ts)) (length (shown form ts .cells)) k
+    → (E .read ts ws h xs .answer ≡ NO-ROOM) ↔ (length (shown form ts .cells) < k + extent (listIn xs))
 
-pub record Demand3 (E : Engine) : Type 0 where
-  pub counts-are-arrows : CountsAreArrows E
-  pub no-list-contains-itself : NoListContainsItself E
-  pub holders-have-lists : HoldersHaveLists E
-  pub free-or-reached : FreeOrReached E
-  pub never-both : NeverBoth E
-  pub erase-frees : EraseFrees E
-  pub erase-counts : EraseCounts E
-  pub reached-counted : ReachedCounted E
-  pub no-room-to-perform : NoRoomToPerform E
-  pub no-room-to-read : NoRoomToRead E
+pub record Demand3 (form : Form) (E : Engine) : Type 0 where
+  pub counts-are-arrows : CountsAreArrows form E
+  pub no-list-contains-itself : NoListContainsItself form E
+  pub holders-have-lists : HoldersHaveLists form E
+  pub free-or-reached : FreeOrReached form E
+  pub never-both : NeverBoth form E
+  pub erase-frees : EraseFrees form E
+  pub erase-counts : EraseCounts form E
+  pub reached-counted : ReachedCounted form E
+  pub no-room-to-perform : NoRoomToPerform form E
+  pub no-room-to-read : NoRoomToRead form E

@@ -5,10 +5,11 @@ use Prim.Native.Nat.{ℕ}
 use lib.ListN.{drop}
 use Rattle.answers.specs.Answers.{DONE}
 use Rattle.text.specs.Text.{Answer, verdict, restAt}
-use Rattle.setup.specs.SetUp.{Given, setUp}
-use Rattle.calls.specs.Run.{Ran, ran}
-use Rattle.calls.specs.Read.{Read, readIn}
-use Rattle.calls.specs.Write.{Write, writeOut}
+use Rattle.setup.specs.SetUp.{Given, setUp, setUpIn}
+use Rattle.calls.specs.Run.{Ran, ranIn}
+use Rattle.calls.specs.Read.{Read, readingIn}
+use Rattle.calls.specs.Write.{Write, writingIn}
+use Rattle.table.specs.declared.Form.{Form}
 
 -- what each call gives: its answer, its number, and the lent words afterwards
 pub record Engine : Type 0 where
@@ -25,8 +26,8 @@ pub record Engine : Type 0 where
   -- text; the records after the first list
   pub rest : List ℕ → List ℕ
 
-abbrev pub ours : Engine
-ours = record { setUp = setUp; run = ran; read = readIn; write = writeOut; check = verdict; rest = λ xs. drop (restAt xs) xs }
+abbrev pub ours : (form : Form) → Engine
+ours form = record { setUp = setUpIn form; run = ranIn form; read = readingIn form; write = writingIn form; check = verdict; rest = λ xs. drop (restAt xs) xs }
 
 -- the tables that an engine's calls can make, from a set-up that is done on, whatever the arguments and the answers
 pub data Reached (E : Engine) : List ℕ → Type 0 where

@@ -1,6 +1,7 @@
 -- When each answer is given, in document 01's words: the rows of setting up, of a script run and of an operation, in the order of their checks.
 use mathlib.Core.Path.{_≡_}
 use mathlib.Core.Logic.{_≢_, _⊎_}
+use mathlib.Core.Bool.{false}
 use mathlib.Core.List.{List, [], _∷_, _++_}
 use Prim.Native.Nat.{ℕ, zero, suc, _*_, _/_, _%_, _≤_, _<_}
 use lib.ListN.{length, getD}
@@ -8,21 +9,22 @@ use Rattle.answers.specs.Answers.{TABLE-SIZE, WORK-SPACE, SCRIPT, RESULTS, UNSO
 use Rattle.lists.specs.Lst.{Lst, len}
 use Rattle.pool.specs.Pool.{Cell, Pool, countOf, nextOf, holder, ListAt, frees, Sound}
 use Rattle.pool.specs.Script.{PFA, PFL, DECAP, ADV, BORROW, INV, CINV, CONC, FIRST, LENGTH, Operation}
-use Rattle.table.specs.Limits.{cellsMost, holdersMost, tableWords}
+use Rattle.table.specs.Limits.{cellsMost, holdersFit, holdersMost, holdersTold, tableWords}
 use Rattle.calls.specs.Entry.{shown}
 use Rattle.calls.specs.Run.{operationsMost}
 use Rattle.promises.specs.Rows.{Row, row, OneOf}
+use Rattle.table.specs.declared.Form.{Form}
 
--- n cells in k words: no pool has n cells, or one of n cells has not k words
-abbrev pub BadSize : ℕ → ℕ → Type 0
-BadSize n k = (n < 1) ⊎ (cellsMost < n) ⊎ (k ≢ tableWords n)
+-- n cells and h holders in k words: no pool has n cells, or h holders, or one that has has not k words
+abbrev pub BadSize : (form : Form) → ℕ → ℕ → ℕ → Type 0
+BadSize form h n k = (n < 1) ⊎ (cellsMost form < n) ⊎ (holdersFit form h ≡ false) ⊎ (k ≢ tableWords form h n)
 
 -- word 0 is the number of cells
 abbrev pub cellsTold : List ℕ → ℕ
 cellsTold ts = getD ts 0 0
 
-abbrev pub BadTable : List ℕ → Type 0
-BadTable ts = BadSize (cellsTold ts) (length ts)
+abbrev pub BadTable : (form : Form) → List ℕ → Type 0
+BadTable form ts = BadSize form (holdersTold form ts) (cellsTold ts) (length ts)
 
 abbrev pub BadWork : List ℕ → List ℕ → Type 0
 BadWork ts ws = length ws < 2 * cellsTold ts
@@ -33,26 +35,26 @@ BadScript ss = (length ss % 4 ≢ 0) ⊎ (4 * operationsMost < length ss)
 abbrev pub BadResults : List ℕ → List ℕ → Type 0
 BadResults ss rs = length rs < 2 * (length ss / 4)
 
-abbrev pub Unsound : List ℕ → Type 0
-Unsound ts = Sound (shown ts) → ⊥
+abbrev pub Unsound : (form : Form) → List ℕ → Type 0
+Unsound form ts = Sound (shown form ts) → ⊥
 
-abbrev pub NoHolder : ℕ → Type 0
-NoHolder h = holdersMost ≤ h
+abbrev pub NoHolder : Pool → ℕ → Type 0
+NoHolder p h = length (p .holders) ≤ h
 
 -- setting up
 
-abbrev pub setUpRows : List ℕ → ℕ → List Row
-setUpRows ts n = row TABLE-SIZE (BadSize n (length ts)) ∷ []
+abbrev pub setUpRows : (form : Form) → List ℕ → ℕ → List Row
+setUpRows form ts n = row TABLE-SIZE (BadSize form holdersMost n (length ts)) ∷ []
 
 -- a script run, before its operations
 
-abbrev pub runRows : List ℕ → List ℕ → List ℕ → List ℕ → List Row
-runRows ts ws ss rs =
-    row TABLE-SIZE (BadTable ts)
+abbrev pub runRows : (form : Form) → List ℕ → List ℕ → List ℕ → List ℕ → List Row
+runRows form ts ws ss rs =
+    row TABLE-SIZE (BadTable form ts)
     ∷ row WORK-SPACE (BadWork ts ws)
     ∷ row SCRIPT (BadScript ss)
     ∷ row RESULTS (BadResults ss rs)
-    ∷ row UNSOUND (Unsound ts)
+    ∷ row UNSOUND (Unsound form ts)
     ∷ []
 
 -- an operation
@@ -90,8 +92,8 @@ SomeShared p a = (c : ℕ) × MainLevel p a c × (1 < countOf (p .cells) c)
 abbrev pub BadCode : Operation → Type 0
 BadCode o = (o .code < PFA) ⊎ (LENGTH < o .code)
 
-abbrev pub BadHolder : Operation → Type 0
-BadHolder o = NoHolder (o .a) ⊎ (UsesB (o .code) × NoHolder (o .b))
+abbrev pub BadHolder : Pool → Operation → Type 0
+BadHolder p o = NoHolder p (o .a) ⊎ (UsesB (o .code) × NoHolder p (o .b))
 
 abbrev pub Same : Operation → Type 0
 Same o = UsesB (o .code) × (o .a ≡ o .b)
@@ -120,7 +122,7 @@ NoRoom p o = (n : ℕ) × Needs p o n × (frees (p .cells) < n)
 abbrev pub beforeRoom : Pool → Operation → List Row
 beforeRoom p o =
     row CODE (BadCode o)
-    ∷ row HOLDER (BadHolder o)
+    ∷ row HOLDER (BadHolder p o)
     ∷ row SAME (Same o)
     ∷ row NULL (Null p o)
     ∷ row OCCUPIED (Occupied p o)

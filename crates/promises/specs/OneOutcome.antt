@@ -7,36 +7,37 @@ use Prim.Native.Nat.{ℕ}
 use Rattle.answers.specs.Answers.{outcome}
 use Rattle.answers.specs.declared.Outcome.{Outcome}
 use Rattle.text.specs.Text.{verdict}
-use Rattle.setup.specs.SetUp.{SetUp, setUp}
-use Rattle.calls.specs.Run.{ran}
-use Rattle.calls.specs.Read.{readIn}
+use Rattle.setup.specs.SetUp.{SetUp, setUp, setUpIn}
+use Rattle.calls.specs.Run.{ranIn}
+use Rattle.calls.specs.Read.{readingIn}
 use Rattle.calls.specs.Contracts.{Runs, Reads, wrote}
-use Rattle.calls.specs.Write.{Write, writeOut}
+use Rattle.calls.specs.Write.{Write, writingIn}
 use Rattle.promises.specs.Engine.{Engine}
 use Rattle.promises.specs.Rows.{Row, Answers}
 use Rattle.promises.specs.Grounds.{setUpRows}
 use Rattle.promises.specs.TextGrounds.{readRows, writeRows, checkRows}
 use Rattle.promises.specs.Demand1.{Demand1}
-use Rattle.promises.specs.Demand1Kept.{demand1}
+use Rattle.promises.specs.kept.Demand1Kept.{demand1}
+use Rattle.table.specs.declared.Form.{Form}
 
 -- setting up, by the contract of the code
-pub one-set-up : (ts : List ℕ) (n : ℕ) {r s : ℕ} {us vs : List ℕ} → SetUp (setUp ts n) r us → SetUp (setUp ts n) s vs → (r ≡ s) × (us ≡ vs)
-one-set-up ts n a b = (a .answer ∙ sym (b .answer), a .table ∙ sym (b .table))
+pub one-set-up : (form : Form) → (ts : List ℕ) (n : ℕ) {r s : ℕ} {us vs : List ℕ} → SetUp (setUpIn form ts n) r us → SetUp (setUpIn form ts n) s vs → (r ≡ s) × (us ≡ vs)
+one-set-up form ts n a b = (a .answer ∙ sym (b .answer), a .table ∙ sym (b .table))
 
 -- a script run
-pub one-run : (ts ws ss rs : List ℕ) {r s : Outcome} {us vs qs us′ vs′ qs′ : List ℕ} → Runs r us vs qs (ran ts ws ss rs) → Runs s us′ vs′ qs′ (ran ts ws ss rs)
+pub one-run : (form : Form) → (ts ws ss rs : List ℕ) {r s : Outcome} {us vs qs us′ vs′ qs′ : List ℕ} → Runs r us vs qs (ranIn form ts ws ss rs) → Runs s us′ vs′ qs′ (ranIn form ts ws ss rs)
     → (r ≡ s) × (us ≡ us′) × (vs ≡ vs′) × (qs ≡ qs′)
-one-run ts ws ss rs a b = (a .outcome ∙ sym (b .outcome), a .table ∙ sym (b .table), a .work ∙ sym (b .work), a .results ∙ sym (b .results))
+one-run form ts ws ss rs a b = (a .outcome ∙ sym (b .outcome), a .table ∙ sym (b .table), a .work ∙ sym (b .work), a .results ∙ sym (b .results))
 
 -- reading
-pub one-read : (ts ws : List ℕ) (h : ℕ) (xs : List ℕ) {r s : Outcome} {us vs us′ vs′ : List ℕ} → Reads (readIn ts ws h xs) r us vs → Reads (readIn ts ws h xs) s us′ vs′
+pub one-read : (form : Form) → (ts ws : List ℕ) (h : ℕ) (xs : List ℕ) {r s : Outcome} {us vs us′ vs′ : List ℕ} → Reads (readingIn form ts ws h xs) r us vs → Reads (readingIn form ts ws h xs) s us′ vs′
     → (r ≡ s) × (us ≡ us′) × (vs ≡ vs′)
-one-read ts ws h xs a b = (a .answer ∙ sym (b .answer), a .table ∙ sym (b .table), a .work ∙ sym (b .work))
+one-read form ts ws h xs a b = (a .answer ∙ sym (b .answer), a .table ∙ sym (b .table), a .work ∙ sym (b .work))
 
 -- writing
-pub one-write : (ts ws : List ℕ) (h : ℕ) (out : List ℕ) (r s : Outcome) (vs os vs′ os′ : List ℕ) → wrote r vs os ≡ writeOut ts ws h out → wrote s vs′ os′ ≡ writeOut ts ws h out
+pub one-write : (form : Form) → (ts ws : List ℕ) (h : ℕ) (out : List ℕ) (r s : Outcome) (vs os vs′ os′ : List ℕ) → wrote r vs os ≡ writingIn form ts ws h out → wrote s vs′ os′ ≡ writingIn form ts ws h out
     → (r ≡ s) × (vs ≡ vs′) × (os ≡ os′)
-one-write ts ws h out r s vs os vs′ os′ a b =
+one-write form ts ws h out r s vs os vs′ os′ a b =
     let e : wrote r vs os ≡ wrote s vs′ os′ = a ∙ sym b in
     (ap (λ (w : Write). outcome (w .answer) (w .count)) e, ap (λ (w : Write). w .work) e, ap (λ (w : Write). w .output) e)
 
@@ -54,16 +55,16 @@ one-answer (r ∷ rs) n m (inr a) (inl b) = absurd (a .0 (b .0))
 one-answer (r ∷ rs) n m (inr a) (inr b) = one-answer rs n m (a .1) (b .1)
 
 -- so every engine that keeps demand 1 answers as ours does
-pub record AnswersAsOurs (E : Engine) : Type 0 where
-  pub set-up : (ts : List ℕ) (n : ℕ) → E .setUp ts n .answer ≡ setUp ts n .answer
-  pub read : (ts ws : List ℕ) (h : ℕ) (xs : List ℕ) → E .read ts ws h xs .answer ≡ readIn ts ws h xs .answer
-  pub write : (ts ws : List ℕ) (h : ℕ) (out : List ℕ) → E .write ts ws h out .answer ≡ writeOut ts ws h out .answer
+pub record AnswersAsOurs (form : Form) (E : Engine) : Type 0 where
+  pub set-up : (ts : List ℕ) (n : ℕ) → E .setUp ts n .answer ≡ setUpIn form ts n .answer
+  pub read : (ts ws : List ℕ) (h : ℕ) (xs : List ℕ) → E .read ts ws h xs .answer ≡ readingIn form ts ws h xs .answer
+  pub write : (ts ws : List ℕ) (h : ℕ) (out : List ℕ) → E .write ts ws h out .answer ≡ writingIn form ts ws h out .answer
   pub check : (xs : List ℕ) → E .check xs .no ≡ verdict xs .no
 
-pub answers-as-ours : (E : Engine) → Demand1 E → AnswersAsOurs E
-answers-as-ours E d = record {
-  set-up = λ ts n. one-answer (setUpRows ts n) _ _ (d .set-up-refusals ts n) (demand1 .set-up-refusals ts n);
-  read = λ ts ws h xs. one-answer (readRows ts ws h xs) _ _ (d .read-refusals ts ws h xs) (demand1 .read-refusals ts ws h xs);
-  write = λ ts ws h out. one-answer (writeRows ts ws h out) _ _ (d .write-refusals ts ws h out) (demand1 .write-refusals ts ws h out);
-  check = λ xs. one-answer (checkRows xs) _ _ (d .check-refusals xs) (demand1 .check-refusals xs);
+pub answers-as-ours : (form : Form) → (E : Engine) → Demand1 form E → AnswersAsOurs form E
+answers-as-ours form E d = record {
+  set-up = λ ts n. one-answer (setUpRows form ts n) _ _ (d .set-up-refusals ts n) (demand1 form .set-up-refusals ts n);
+  read = λ ts ws h xs. one-answer (readRows form ts ws h xs) _ _ (d .read-refusals ts ws h xs) (demand1 form .read-refusals ts ws h xs);
+  write = λ ts ws h out. one-answer (writeRows form ts ws h out) _ _ (d .write-refusals ts ws h out) (demand1 form .write-refusals ts ws h out);
+  check = λ xs. one-answer (checkRows xs) _ _ (d .check-refusals xs) (demand1 form .check-refusals xs);
 }

@@ -16,6 +16,7 @@ use Rattle.text.specs.Writing.{usable, depthAfter}
 use Rattle.calls.specs.Entry.{shown}
 use Rattle.promises.specs.Rows.{Row, row}
 use Rattle.promises.specs.Grounds.{BadTable, BadWork, Unsound, NoHolder}
+use Rattle.table.specs.declared.Form.{Form}
 
 abbrev pub BadText : List ℕ → Type 0
 BadText xs = (length xs % recordBytes ≢ 0) ⊎ (textMost < length xs)
@@ -106,19 +107,19 @@ checkRows xs = sizeRows xs ++ faultRows xs
 
 -- reading
 
-abbrev pub beforeReading : List ℕ → List ℕ → ℕ → List ℕ → List Row
-beforeReading ts ws h xs =
-    row TABLE-SIZE (BadTable ts)
+abbrev pub beforeReading : (form : Form) → List ℕ → List ℕ → ℕ → List ℕ → List Row
+beforeReading form ts ws h xs =
+    row TABLE-SIZE (BadTable form ts)
     ∷ row WORK-SPACE (BadWork ts ws)
-    ∷ row HOLDER (NoHolder h)
+    ∷ row HOLDER (NoHolder (shown form ts) h)
     ∷ row TEXT-SIZE (BadText xs)
     ∷ row END (length xs ≡ 0)
-    ∷ row UNSOUND (Unsound ts)
-    ∷ row OCCUPIED (holder (shown ts) h ≢ 0)
+    ∷ row UNSOUND (Unsound form ts)
+    ∷ row OCCUPIED (holder (shown form ts) h ≢ 0)
     ∷ faultRows xs
 
-abbrev pub readRows : List ℕ → List ℕ → ℕ → List ℕ → List Row
-readRows ts ws h xs = beforeReading ts ws h xs ++ (row NO-ROOM (frees (shown ts .cells) < extent (listIn xs)) ∷ [])
+abbrev pub readRows : (form : Form) → List ℕ → List ℕ → ℕ → List ℕ → List Row
+readRows form ts ws h xs = beforeReading form ts ws h xs ++ (row NO-ROOM (frees (shown form ts .cells) < extent (listIn xs)) ∷ [])
 
 -- writing
 
@@ -127,15 +128,15 @@ abbrev pub TooDeep : ℕ → List ℕ → Type 0
 TooDeep u t = (us : List ℕ) × (later : List ℕ) × (t ≡ us ++ (40 ∷ later)) × (levels ≤ openIn us) × (length us ≤ u)
 
 -- the list that holder h of a table has
-abbrev pub Has : List ℕ → ℕ → Lst → Type 0
-Has ts h l = ListAt (shown ts .cells) (holder (shown ts) h) l
+abbrev pub Has : (form : Form) → List ℕ → ℕ → Lst → Type 0
+Has form ts h l = ListAt (shown form ts .cells) (holder (shown form ts) h) l
 
-abbrev pub writeRows : List ℕ → List ℕ → ℕ → List ℕ → List Row
-writeRows ts ws h out =
-    row TABLE-SIZE (BadTable ts)
+abbrev pub writeRows : (form : Form) → List ℕ → List ℕ → ℕ → List ℕ → List Row
+writeRows form ts ws h out =
+    row TABLE-SIZE (BadTable form ts)
     ∷ row WORK-SPACE (BadWork ts ws)
-    ∷ row HOLDER (NoHolder h)
-    ∷ row UNSOUND (Unsound ts)
-    ∷ row DEEP ((l : Lst) × Has ts h l × TooDeep (usable (length out)) (textOf l))
-    ∷ row OUTPUT ((l : Lst) × Has ts h l × (usable (length out) < length (textOf l)))
+    ∷ row HOLDER (NoHolder (shown form ts) h)
+    ∷ row UNSOUND (Unsound form ts)
+    ∷ row DEEP ((l : Lst) × Has form ts h l × TooDeep (usable (length out)) (textOf l))
+    ∷ row OUTPUT ((l : Lst) × Has form ts h l × (usable (length out) < length (textOf l)))
     ∷ []

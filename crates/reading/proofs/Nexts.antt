@@ -19,11 +19,11 @@ use Rattle.scan.specs.declared.step.Place.{Place}
 use Rattle.scan.specs.declared.step.Step.the-variants.{Mark, Fault}
 use Rattle.text.specs.Limits.{levels, atomsEnd}
 use Rattle.text.specs.ListText.{isDigit}
-use Rattle.text.specs.TextLaws.{decide}
+use Rattle.text.specs.laws.TextLaws.{decide}
 use Rattle.reading.specs.Accepting.{Taken, Amid, Said, Goes}
 use Rattle.reading.specs.Numbers.{endAt, Numbered}
 use Rattle.reading.proofs.Numerals.{digit-on, digit-off}
-use Rattle.reading.specs.AcceptingLaws.{refuted, inside}
+use Rattle.reading.specs.laws.AcceptingLaws.{refuted, inside}
 
 -- behind a ")", with a list open
 module _ {s : List ℕ} (t : Taken s) {depth e at d i : ℕ} (said : Said s (closedAt depth at) at) (k : Shutting s depth e at d i) (deep : 1 ≤ d) where

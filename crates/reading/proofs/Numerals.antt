@@ -8,7 +8,7 @@ use lib.ListN.{length, drop, getD}
 use Rattle.scan.proofs.RunLaws.{digit-bounds, next, run-next, run-stop}
 use Rattle.scan.specs.Runs.{numeral}
 use Rattle.text.specs.ListText.{isDigit}
-use Rattle.text.specs.TextLaws.{by-case}
+use Rattle.text.specs.laws.TextLaws.{by-case}
 use Rattle.reading.specs.Numbers.{endAt}
 
 -- it grows with each digit

@@ -1,16 +1,8 @@
 pub mod Build
-pub mod BuildLaws
-pub mod MarksLeft
 pub mod Reading
-pub mod ReadingLaws
 pub mod Hooks
-pub mod HookLaws
 pub mod Underway
-pub mod UnderwayLaws
 pub mod Numbers
 pub mod Accepting
-pub mod AcceptingLaws
-pub mod AddLaws
 pub mod Pass
-pub mod PassLaws
-pub mod ReadLaws
+pub mod laws

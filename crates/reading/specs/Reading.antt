@@ -7,7 +7,7 @@ use Rattle.lists.specs.Lst.{Lst}
 use Rattle.pool.specs.Pool.{Cell, Pool, put, nextOf}
 use Rattle.pool.specs.Tally.{occ}
 use Rattle.reading.specs.Build.{link, Open, completed, wanted, Link, held, after, inside, hung, heldBy}
-use Rattle.reading.specs.BuildLaws.{Supply}
+use Rattle.reading.specs.laws.BuildLaws.{Supply}
 
 -- the pool with c named where the link says
 abbrev pub hang : Link → ℕ → ℕ → Pool → Pool

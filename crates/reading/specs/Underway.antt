@@ -13,7 +13,7 @@ use Rattle.text.specs.Limits.{levels}
 use Rattle.text.specs.Marks.{Mark}
 use Rattle.reading.specs.Build.{Open}
 use Rattle.reading.specs.Hooks.{linkOf, stack, openCells}
-use Rattle.reading.specs.MarksLeft.{marksLeft}
+use Rattle.reading.specs.laws.MarksLeft.{marksLeft}
 use Rattle.reading.specs.Reading.{Reading}
 use Rattle.reading.specs.declared.hook.Hook.{Hook}
 

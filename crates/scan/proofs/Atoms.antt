@@ -14,7 +14,7 @@ use Rattle.text.specs.Limits.{digitsMost, atomsEnd}
 use Rattle.text.specs.Text.{Scan, place, inAtom, mayBegin, Step, mark, at, settle, stepOf, digitAt, moreAt, refusal}
 use Rattle.text.specs.ListText.{isDigit}
 use Rattle.text.specs.Marks.{Mark}
-use Rattle.text.specs.TextLaws.{by-case, decide, no-yes}
+use Rattle.text.specs.laws.TextLaws.{by-case, decide, no-yes}
 use Rattle.scan.specs.Runs.{digitRun, numeral}
 use Rattle.scan.specs.Places.{tooLong, Prospect, prospect, behind}
 use Rattle.scan.proofs.RunLaws.{next, digit-bounds}

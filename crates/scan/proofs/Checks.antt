@@ -10,7 +10,7 @@ use Rattle.answers.specs.Answers.{outcome, refused, done}
 use Rattle.answers.specs.declared.Outcome.{Outcome}
 use Rattle.text.specs.Text as text
 use Rattle.text.specs.Text.{begin, State, at, taken, run, answer, scanned, verdict, restAt}
-use Rattle.text.specs.Accepted.{right-size, taken-within}
+use Rattle.text.specs.laws.Accepted.{right-size, taken-within}
 use Rattle.scan.specs.Outcomes.{Sized, scannedAs, answeredAs}
 use Rattle.scan.specs.declared.Scanned.{Scanned}
 

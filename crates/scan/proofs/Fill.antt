@@ -9,8 +9,8 @@ use Rattle.text.specs.Limits.{recordBytes}
 use Rattle.text.specs.Text as text
 use Rattle.text.specs.Text.{place, afterAll, fault, State, at, taken, settle, stepOf, answer, done}
 use Rattle.text.specs.Marks.{Mark, met, begun}
-use Rattle.text.specs.TextLaws.{rests-taken, digit-step, Class, is-open, is-shut, is-comma, is-blank, is-digit, is-other, class}
-use Rattle.text.specs.MarkLaws.{trace-taken}
+use Rattle.text.specs.laws.TextLaws.{rests-taken, digit-step, Class, is-open, is-shut, is-comma, is-blank, is-digit, is-other, class}
+use Rattle.text.specs.laws.MarkLaws.{trace-taken}
 use Rattle.scan.specs.Places.{overAt, Outlook, outlook}
 use Rattle.scan.specs.Outcomes.{saying, told, refusedScan, doneScan}
 use Rattle.scan.proofs.Outlooks.{turn, stops}

@@ -8,8 +8,8 @@ use lib.ListN.{length, drop, getD}
 use Rattle.text.specs.Text.{Scan, Step, fault, State, at, refused, stepOf, settle, run, answer, refusal, digitAt}
 use Rattle.text.specs.Marks.{Mark, met, trace, begun}
 use Rattle.text.specs.ListText.{isDigit}
-use Rattle.text.specs.TextLaws.{rests-refused, digit-step}
-use Rattle.text.specs.MarkLaws.{begun-append, digit-met}
+use Rattle.text.specs.laws.TextLaws.{rests-refused, digit-step}
+use Rattle.text.specs.laws.MarkLaws.{begun-append, digit-met}
 use Rattle.scan.specs.Places.{outlook, Prospect, prospect, behind}
 use Rattle.scan.proofs.RunLaws.{next, digit-bounds}
 

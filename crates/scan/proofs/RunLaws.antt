@@ -10,7 +10,7 @@ use lib.Seq.{drop-cons, getD-drop}
 use lib.Dec.{leb}
 use borrow.Author.Tests.{le-leb, leb-true}
 use Rattle.text.specs.ListText.{isDigit}
-use Rattle.text.specs.TextLaws.{by-case, no-yes}
+use Rattle.text.specs.laws.TextLaws.{by-case, no-yes}
 use Rattle.scan.specs.Runs.{digitRun, bytesAt}
 
 -- a digit by its bounds

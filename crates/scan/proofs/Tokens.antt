@@ -14,8 +14,8 @@ use Rattle.text.specs.Text.{Scan, place, afterOpen, afterComma, inAtom, afterEl
 use Rattle.text.specs.ListText.{isDigit}
 use Rattle.text.specs.Marks as marks
 use Rattle.text.specs.Marks.{Mark, met, begun, pending, shut, value}
-use Rattle.text.specs.TextLaws.{by-case, no-yes, digit-step, Class, is-open, is-shut, is-comma, is-blank, is-digit, is-other, class}
-use Rattle.text.specs.MarkLaws.{begun-append}
+use Rattle.text.specs.laws.TextLaws.{by-case, no-yes, digit-step, Class, is-open, is-shut, is-comma, is-blank, is-digit, is-other, class}
+use Rattle.text.specs.laws.MarkLaws.{begun-append}
 use Rattle.scan.specs.Runs.{digitRun, numeral}
 use Rattle.scan.specs.Places.{placed, openOf, tooLong, stateOf, closedAt, phaseOf, Prospect, prospect, prospectAt, behind, shuts, emitted, Inside, Closing, Onward, Told, Taken, Closed}
 use Rattle.scan.specs.declared.step.Place.{Place}

@@ -13,11 +13,11 @@ use Rattle.text.specs.Limits.{levels}
 use Rattle.text.specs.Text as text
 use Rattle.text.specs.Text.{place, begin, State, at, run, settle, stepOf, answer, scanned, refusal, done}
 use Rattle.text.specs.Marks.{met, begun, trace, listIn}
-use Rattle.text.specs.TextLaws.{decide, class}
-use Rattle.text.specs.MarkLaws.{begun-append}
-use Rattle.text.specs.Accepted.{begun-text, never-nought}
+use Rattle.text.specs.laws.TextLaws.{decide, class}
+use Rattle.text.specs.laws.MarkLaws.{begun-append}
+use Rattle.text.specs.laws.Accepted.{begun-text, never-nought}
 use Rattle.scan.specs.Places.{opened, faultOf, overAt, stateOf, phaseOf, Outlook, outlook, outlookAt, Prospect, prospectAt, emitted, Inside, Taken}
-use Rattle.scan.specs.Starts.{no-start}
+use Rattle.scan.specs.laws.Starts.{no-start}
 use Rattle.scan.specs.Outcomes.{Sized, saying, told, refusedScan, scannedAs}
 use Rattle.scan.specs.declared.step.Place.{Place}
 use Rattle.scan.specs.declared.step.Step.{Step}

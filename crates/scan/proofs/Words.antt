@@ -9,7 +9,7 @@ use lib.Bits.{bitAnd, bitXor, block-half, block-odd, and-block, xor-block, and-h
 use lib.Count.{trailingZeros, under, trailing-of-zero}
 use lib.ListN.{length, drop}
 use Rattle.text.specs.ListText.{isDigit}
-use Rattle.text.specs.TextLaws.{by-case, no-yes}
+use Rattle.text.specs.laws.TextLaws.{by-case, no-yes}
 use Rattle.scan.specs.Runs.{digitRun, bytesAt, Bytes, word}
 use Rattle.scan.proofs.RunLaws.{digit-bounds, bounds-digit, run-all, run-part, eight-split}
 

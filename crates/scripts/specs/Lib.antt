@@ -1,4 +1,3 @@
 pub mod Performs
 pub mod Midway
-pub mod MidwayLaws
-pub mod RunLaws
+pub mod laws

@@ -2,17 +2,19 @@
 ghost use mathlib.Core.Path.{_≡_};
 ghost use Prim.Native.Nat.{_+_, _*_, _/_, _%_, _≤_};
 ghost use lib.ListN.{length};
-ghost use Rattle.calls.specs.Run.{operationsMost, operations, ran};
+ghost use Rattle.calls.specs.Run.{operationsMost, operations, ran, ranIn};
 ghost use Rattle.ops.specs.Replies.{Gives};
 ghost use Rattle.pool.specs.Pool.{Sound};
 ghost use Rattle.pool.specs.Script.{performed};
 ghost use Rattle.scripts.specs.Midway.{operationAt, written};
 ghost use Rattle.calls.specs.Contracts.{Runs};
 ghost use Rattle.scripts.specs.Performs.{Performs};
+ghost use Rattle.table.specs.declared.Form.the-variants.{Four};
 ghost use Rattle.table.specs.View.{view, Table};
 use answers::Answer;
 use answers::Outcome;
 use ops::Reply;
+use table::Form;
 use table::Shape;
 
 // A script: for each operation its code, a, b and v.
@@ -84,10 +86,17 @@ fn perform_all(s: Shape, table: &mut [u32], script: &[u32], results: &mut [u32])
     Outcome::done(n as u32)
 }
 
-pub fn run(table: &mut [u32], work: &mut [u32], script: &[u32], results: &mut [u32]) -> Outcome
-    ensures { λ r. ⌜ Runs r (now (table .exit)) (now (work .exit)) (now (results .exit)) (ran (now (table .entry)) (now (work .entry)) (now (script .entry)) (now (results .entry))) ⌝ }
+pub fn run_form(
+    f: Form,
+    table: &mut [u32],
+    work: &mut [u32],
+    script: &[u32],
+    results: &mut [u32],
+) -> Outcome
+    ensures { λ r. ⌜ Runs r (now (table .exit)) (now (work .exit)) (now (results .exit)) (ranIn f (now (table .entry)) (now (work .entry)) (now (script .entry)) (now (results .entry))) ⌝ }
 {
-    let n = table::cells_of(table);
+    let s = table::shape_of(f, table);
+    let n = s.cells;
     if n == 0 {
         return Outcome::refused(Answer::TABLE_SIZE);
     }
@@ -103,9 +112,15 @@ pub fn run(table: &mut [u32], work: &mut [u32], script: &[u32], results: &mut [u
     if results.len() < 2 * (script.len() / Script::WORDS) {
         return Outcome::refused(Answer::RESULTS);
     }
-    let s = Shape { cells: n };
     if !sound::is_sound(s, table, work) {
         return Outcome::refused(Answer::UNSOUND);
     }
     perform_all(s, table, script, results)
+}
+
+// On a table with four words a cell.
+pub fn run(table: &mut [u32], work: &mut [u32], script: &[u32], results: &mut [u32]) -> Outcome
+    ensures { λ r. ⌜ Runs r (now (table .exit)) (now (work .exit)) (now (results .exit)) (ran (now (table .entry)) (now (work .entry)) (now (script .entry)) (now (results .entry))) ⌝ }
+{
+    run_form(Form::Four, table, work, script, results)
 }

@@ -1,3 +1,2 @@
 pub mod SetUp
-pub mod Linked
-pub mod SetUpLaws
+pub mod laws

@@ -1,11 +1,17 @@
 // The call that sets up a pool: every cell free, each followed by the next.
 ghost use mathlib.Core.Path.{_≡_};
+ghost use Prim.Native.Nat.{_≤_, _<_};
+ghost use lib.ListN.{length, set};
 ghost use Rattle.pool.specs.Operations.{laid};
 ghost use Rattle.table.specs.Fields.{celled};
-ghost use Rattle.table.specs.View.{view, Table, Shows};
-ghost use Rattle.setup.specs.SetUp.{SetUp, setUp};
-ghost use Rattle.setup.specs.Linked.{linked};
+ghost use Rattle.table.specs.View.{shape, view, Table, Shows};
+ghost use Rattle.setup.specs.SetUp.{SetUp, setUp, setUpIn};
+ghost use Rattle.table.specs.declared.Form.the-variants.{Four};
+ghost use Rattle.setup.specs.laws.Linked.{linked};
+ghost use Rattle.setup.specs.laws.SetUpLaws.{toldIn};
 use answers::Answer;
+use table::Form;
+use table::Holder;
 use table::Shape;
 
 // Each cell but the last gets the next for its successor.
@@ -22,17 +28,39 @@ fn link(s: Shape, t: &mut [u32])
     }
 }
 
-// A pool of n cells, if the words are as many as that asks.
-pub fn set_up(t: &mut [u32], n: u32) -> u32
-    ensures { λ r. ⌜ SetUp (setUp (now (t .entry)) n) r (now (t .exit)) ⌝ }
+// The number of holders, where the form tells it.
+fn tell(f: Form, t: &mut [u32], h: u32)
+    requires { ⌜ 2 < length (now t) ⌝ }
+    ensures { λ r. ⌜ now (t .exit) ≡ toldIn f h (now (t .entry)) ⌝ }
 {
-    let s = Shape { cells: n as usize };
-    if !table::fits(s.cells, t.len()) {
+    if f.head() > 2 {
+        t[2] = h;
+    }
+}
+
+// A pool of n cells and h holders, if the words are as many as that asks.
+pub fn set_up_form(f: Form, t: &mut [u32], n: u32, h: u32) -> u32
+    ensures { λ r. ⌜ SetUp (setUp (shape f h n) (now (t .entry))) r (now (t .exit)) ⌝ }
+{
+    let s = Shape {
+        form: f,
+        cells: n as usize,
+        holders: h as usize,
+    };
+    if !table::fits(s, t.len()) {
         return Answer::TABLE_SIZE;
     }
     table::clear(t, t.len());
     t[0] = n;
+    tell(f, t, h);
     table::set_free(s, t, 1);
     link(s, t);
     Answer::DONE
+}
+
+// On a table with four words a cell.
+pub fn set_up(t: &mut [u32], n: u32) -> u32
+    ensures { λ r. ⌜ SetUp (setUpIn Four (now (t .entry)) n) r (now (t .exit)) ⌝ }
+{
+    set_up_form(Form::Four, t, n, Holder::MOST as u32)
 }

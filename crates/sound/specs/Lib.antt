@@ -1,11 +1,4 @@
 pub mod Decided
 pub mod Mirror
-pub mod MirrorLaws
-pub mod CopyLaws
-pub mod ChainLaws
-pub mod RoomLaws
-pub mod HolderLaws
-pub mod TakeLaws
-pub mod PeelLaws
-pub mod DecidedLaws
 pub mod Refusals
+pub mod laws

@@ -1,11 +1,14 @@
 // The only code that knows where the words of a table lie. Every function above goes by the pool that the table shows.
 ghost use mathlib.Core.Path.{_≡_};
-ghost use Prim.Native.Nat.{_^_, _≤_, _<_};
+ghost use mathlib.Core.Bool.{true, false};
+ghost use Prim.Native.Nat.{_+_, _*_, _^_, _≤_, _<_};
 ghost use Rattle.pool.specs.Pool.{at, kindOf, elemOf, countOf, nextOf, holder};
 ghost use Rattle.table.specs.Fields.{field, cell, putField, putCell, putCount, putNext, putFree, putHolder};
-ghost use lib.ListN.{length};
-ghost use Rattle.table.specs.Sizes.{sizesFit, cellsOf, cleared};
-ghost use Rattle.table.specs.View.{holderCount, greatestCount, view, Table, IsCell, Shows};
+ghost use lib.ListN.{length, set, getD};
+ghost use Rattle.table.specs.Limits.{packs, head, cellsMost, holdersFit, holdersTold, cellsIn};
+ghost use Rattle.table.specs.Pack.{part, room, withPart};
+ghost use Rattle.table.specs.Sizes.{sizesFit, shapeOf, cleared};
+ghost use Rattle.table.specs.View.{holderCount, greatestCount, start, cellWord, storedTwo, view, Table, IsCell, Shows};
 
 pub struct Cell(pub usize);
 
@@ -15,8 +18,16 @@ impl Cell {
     // type, element, count and successor
     pub const WORDS: usize = 4;
 
-    // where the words of a cell with number 0 would stand
-    pub const AT: usize = Holder::AT + Holder::MOST - Cell::WORDS;
+    pub const AT: usize = Holder::AT + Holder::MOST;
+}
+
+// A cell in two words: type, count and successor in the first, the element in the second.
+pub struct Pair(pub usize);
+
+impl Pair {
+    pub const MOST: usize = 8000;
+
+    pub const WORDS: usize = 2;
 }
 
 pub struct Holder(pub usize);
@@ -25,46 +36,163 @@ impl Holder {
     pub const MOST: usize = 64;
 
     pub const AT: usize = 2;
+
+    // where the table tells their number
+    pub const MANY: usize = 256;
+}
+
+// How a pool is laid out in words: four words a cell, two words a cell, and two words a cell with the number of holders told.
+pub enum Form {
+    Four,
+    Packed,
+    Wide,
+}
+
+impl Form {
+    // Whether a cell has two words.
+    pub fn packs(self) -> bool
+        ensures { λ r. ⌜ r ≡ packs self ⌝ }
+    {
+        match self {
+            Form::Four => false,
+            Form::Packed => true,
+            Form::Wide => true,
+        }
+    }
+
+    // The words before the holders.
+    pub fn head(self) -> usize
+        ensures { λ r. ⌜ (r ≡ head self) × (r ≤ 3) ⌝ }
+    {
+        match self {
+            Form::Four => Holder::AT,
+            Form::Packed => Holder::AT,
+            Form::Wide => Holder::AT + 1,
+        }
+    }
+
+    pub fn most(self) -> usize
+        ensures { λ r. ⌜ (r ≡ cellsMost self) × (r ≤ 8000) ⌝ }
+    {
+        match self {
+            Form::Four => Cell::MOST,
+            Form::Packed => Pair::MOST,
+            Form::Wide => Pair::MOST,
+        }
+    }
+
+    // Whether a table of this form may have that many holders.
+    pub fn takes(self, h: usize) -> bool
+        ensures { λ r. ⌜ r ≡ holdersFit self h ⌝ }
+    {
+        match self {
+            Form::Four => h == Holder::MOST,
+            Form::Packed => h == Holder::MOST,
+            Form::Wide => {
+                if h < 1 {
+                    return false;
+                }
+                h <= Holder::MANY
+            }
+        }
+    }
+
+    // The words of n cells.
+    pub fn words(self, n: usize) -> usize
+        requires { ⌜ n ≤ 8000 ⌝ }
+        ensures { λ r. ⌜ (r ≡ cellsIn (packs self) n) × (r ≤ 32000) ⌝ }
+    {
+        if self.packs() {
+            Pair::WORDS * n
+        } else {
+            Cell::WORDS * n
+        }
+    }
 }
 
 // The layout of a table: what goes with its words everywhere.
 pub struct Shape {
+    pub form: Form,
     pub cells: usize,
+    pub holders: usize,
 }
 
 impl Shape {
     pub fn holders(self) -> usize
         ensures { λ r. ⌜ r ≡ holderCount self ⌝ }
     {
-        Holder::MOST
+        self.holders
+    }
+
+    // Where the words of the cells begin.
+    pub fn start(self) -> usize
+        requires { ⌜ self .holders ≤ 256 ⌝ }
+        ensures { λ r. ⌜ r ≡ start self ⌝ }
+    {
+        let f = self.form;
+        f.head() + self.holders
     }
 }
 
-// Whether a table of n cells has that many words.
-pub fn fits(n: usize, words: usize) -> bool
-    ensures { λ r. ⌜ r ≡ sizesFit n words ⌝ }
+// Whether a table of that shape has that many words.
+pub fn fits(s: Shape, words: usize) -> bool
+    ensures { λ r. ⌜ r ≡ sizesFit s words ⌝ }
 {
-    if n < 1 {
+    if s.cells < 1 {
         return false;
     }
-    if n > Cell::MOST {
+    let f = s.form;
+    if s.cells > f.most() {
         return false;
     }
-    words == Holder::AT + Holder::MOST + Cell::WORDS * n
+    if !f.takes(s.holders) {
+        return false;
+    }
+    words == s.start() + f.words(s.cells)
 }
 
-// The number of cells of a table, 0 where the words are none.
-pub fn cells_of(t: &[u32]) -> usize
-    ensures { λ r. ⌜ r ≡ cellsOf (now (t .entry)) ⌝ }
+// The holders that a table of a form tells.
+fn holders_told(f: Form, t: &[u32]) -> usize
+    ensures { λ r. ⌜ r ≡ holdersTold f (now (t .entry)) ⌝ }
 {
+    match f {
+        Form::Four => Holder::MOST,
+        Form::Packed => Holder::MOST,
+        Form::Wide => {
+            if t.len() < 3 {
+                return 0;
+            }
+            t[2] as usize
+        }
+    }
+}
+
+// The shape of a table of the form, with no cells where the words are none.
+pub fn shape_of(f: Form, t: &[u32]) -> Shape
+    ensures { λ r. ⌜ r ≡ shapeOf f (now (t .entry)) ⌝ }
+{
+    let h = holders_told(f, t);
     if t.len() == 0 {
-        return 0;
+        return Shape {
+            form: f,
+            cells: 0,
+            holders: h,
+        };
     }
     let n = t[0] as usize;
-    if fits(n, t.len()) {
-        return n;
+    let s = Shape {
+        form: f,
+        cells: n,
+        holders: h,
+    };
+    if fits(s, t.len()) {
+        return s;
     }
-    0
+    Shape {
+        form: f,
+        cells: 0,
+        holders: h,
+    }
 }
 
 // The first n words become 0.
@@ -79,22 +207,105 @@ pub fn clear(w: &mut [u32], n: usize)
     }
 }
 
+// Field k of the two words of a cell.
+fn part_of(w: u32, e: u32, k: usize) -> u32
+    requires { ⌜ k < 4 ⌝ }
+    ensures { λ r. ⌜ r ≡ part k w e ⌝ }
+{
+    if k == 0 {
+        return w / 2147483648;
+    }
+    if k == 1 {
+        return e;
+    }
+    if k == 2 {
+        return w / 65536 % 32768;
+    }
+    w % 65536
+}
+
+// The first word with v in field k, the other two as they were.
+fn with_part(w: u32, k: usize, v: u32) -> u32
+    requires { ⌜ (k < 4) × (v < room k) ⌝ }
+    ensures { λ r. ⌜ r ≡ withPart k v w ⌝ }
+{
+    if k == 0 {
+        return w % 2147483648 + 2147483648 * v;
+    }
+    if k == 1 {
+        return w;
+    }
+    if k == 2 {
+        return w / 2147483648 * 2147483648 + 65536 * v + w % 65536;
+    }
+    w / 65536 * 65536 + v
+}
+
+// Field k of cell i + 1, where the cells begin at word a and have two words each.
+fn get_two(t: &[u32], a: usize, i: usize, k: usize) -> u32
+    requires { ⌜ a + 2 * i + 1 < length (now t) ⌝ }
+    requires { ⌜ k < 4 ⌝ }
+    ensures { λ r. ⌜ r ≡ cellWord true a k (now (t .entry)) i ⌝ }
+{
+    let b = a + Pair::WORDS * i;
+    part_of(t[b], t[b + 1], k)
+}
+
+// The same, where they have four.
+fn get_four(t: &[u32], i: usize, k: usize) -> u32
+    requires { ⌜ 66 + 4 * i + 3 < length (now t) ⌝ }
+    requires { ⌜ k < 4 ⌝ }
+    ensures { λ r. ⌜ r ≡ cellWord false 66 k (now (t .entry)) i ⌝ }
+{
+    t[Cell::AT + Cell::WORDS * i + k]
+}
+
 fn get(s: Shape, t: &[u32], c: usize, k: usize) -> u32
     requires { ⌜ Table s (now t) ⌝ }
     requires { ⌜ IsCell s c ⌝ }
     requires { ⌜ k < 4 ⌝ }
     ensures { λ r. ⌜ r ≡ field k (at (view s (now (t .entry)) .cells) c) ⌝ }
 {
-    t[Cell::AT + Cell::WORDS * c + k]
+    let f = s.form;
+    if f.packs() {
+        return get_two(t, s.start(), c - 1, k);
+    }
+    get_four(t, c - 1, k)
+}
+
+fn put_two(t: &mut [u32], a: usize, i: usize, k: usize, v: u32)
+    requires { ⌜ a + 2 * i + 1 < length (now t) ⌝ }
+    requires { ⌜ (k < 4) × (v < room k) ⌝ }
+    ensures { λ r. ⌜ now (t .exit) ≡ storedTwo a i k v (now (t .entry)) ⌝ }
+{
+    let b = a + Pair::WORDS * i;
+    if k == 1 {
+        t[b + 1] = v;
+    } else {
+        t[b] = with_part(t[b], k, v);
+    }
+}
+
+fn put_four(t: &mut [u32], i: usize, k: usize, v: u32)
+    requires { ⌜ 66 + 4 * i + 3 < length (now t) ⌝ }
+    requires { ⌜ k < 4 ⌝ }
+    ensures { λ r. ⌜ now (t .exit) ≡ set (now (t .entry)) (66 + 4 * i + k) v ⌝ }
+{
+    t[Cell::AT + Cell::WORDS * i + k] = v;
 }
 
 fn put_word(s: Shape, t: &mut [u32], c: usize, k: usize, v: u32)
     requires { ⌜ Table s (now t) ⌝ }
     requires { ⌜ IsCell s c ⌝ }
-    requires { ⌜ k < 4 ⌝ }
+    requires { ⌜ (k < 4) × (v < room k) ⌝ }
     ensures { λ r. ⌜ Shows s (now (t .exit)) (putField k c v (view s (now (t .entry)))) ⌝ }
 {
-    t[Cell::AT + Cell::WORDS * c + k] = v;
+    let f = s.form;
+    if f.packs() {
+        put_two(t, s.start(), c - 1, k, v);
+    } else {
+        put_four(t, c - 1, k, v);
+    }
 }
 
 pub fn kind_of(s: Shape, t: &[u32], c: usize) -> u32
@@ -188,7 +399,8 @@ pub fn holder_of(s: Shape, t: &[u32], h: usize) -> usize
     requires { ⌜ h < holderCount s ⌝ }
     ensures { λ r. ⌜ (r ≡ holder (view s (now (t .entry))) h) × (r < 2 ^ 32) ⌝ }
 {
-    t[Holder::AT + h] as usize
+    let f = s.form;
+    t[f.head() + h] as usize
 }
 
 pub fn set_holder(s: Shape, t: &mut [u32], h: usize, v: usize)
@@ -197,5 +409,6 @@ pub fn set_holder(s: Shape, t: &mut [u32], h: usize, v: usize)
     requires { ⌜ v ≤ s .cells ⌝ }
     ensures { λ r. ⌜ Shows s (now (t .exit)) (putHolder h v (view s (now (t .entry)))) ⌝ }
 {
-    t[Holder::AT + h] = v as u32;
+    let f = s.form;
+    t[f.head() + h] = v as u32;
 }

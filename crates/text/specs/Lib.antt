@@ -1,13 +1,6 @@
 pub mod Limits
 pub mod Text
-pub mod TextLaws
 pub mod ListText
 pub mod Marks
-pub mod MarkLaws
-pub mod RoundTrip
-pub mod Front
-pub mod ReadBack
-pub mod Accepted
-pub mod Bounds
 pub mod Writing
-pub mod WritingLaws
+pub mod laws

@@ -1,15 +1,8 @@
 pub mod Numeral
-pub mod NumeralLaws
 pub mod Steps
-pub mod StepLaws
 pub mod Put
-pub mod PutLaws
 pub mod Measures
 pub mod Walking
-pub mod TurnLaws
-pub mod WalkingLaws
-pub mod MeasureLaws
 pub mod Putting
-pub mod PuttingLaws
 pub mod RecordEnd
-pub mod WroteLaws
+pub mod laws

@@ -4,7 +4,8 @@ ghost use mathlib.Core.List.{List};
 ghost use Prim.Native.Nat.{ℕ, _-_, _≤_};
 ghost use lib.ListN.{length, replicate};
 ghost use lib.Seq.{paste};
-ghost use Rattle.calls.specs.Write.{writeList, writeOut};
+ghost use Rattle.calls.specs.Write.{writeList, writeOut, writingIn};
+ghost use Rattle.table.specs.declared.Form.the-variants.{Four};
 ghost use Rattle.table.specs.View.{view, Table};
 ghost use Rattle.text.specs.Limits.{textMost};
 ghost use Rattle.text.specs.Writing.{usable};
@@ -14,6 +15,7 @@ ghost use Rattle.writing.specs.RecordEnd.{recordEnd};
 use answers::Answer;
 use answers::Outcome;
 use scan::limits::Record;
+use table::Form;
 use table::Shape;
 
 pub mod atoms;
@@ -67,17 +69,17 @@ fn write_list(s: Shape, t: &[u32], x: usize, out: &mut [u8]) -> Outcome
 }
 
 // Every refusal comes before a byte is written: first 1, 2, 7 and 5, then 17 or 18, whichever is met first.
-pub fn write(table: &[u32], work: &mut [u32], h: u32, out: &mut [u8]) -> Outcome
-    ensures { λ r. ⌜ wrote r (now (work .exit)) (now (out .exit)) ≡ writeOut (now (table .entry)) (now (work .entry)) h (now (out .entry)) ⌝ }
+pub fn write_form(f: Form, table: &[u32], work: &mut [u32], h: u32, out: &mut [u8]) -> Outcome
+    ensures { λ r. ⌜ wrote r (now (work .exit)) (now (out .exit)) ≡ writingIn f (now (table .entry)) (now (work .entry)) h (now (out .entry)) ⌝ }
 {
-    let n = table::cells_of(table);
+    let s = table::shape_of(f, table);
+    let n = s.cells;
     if n == 0 {
         return Outcome::refused(Answer::TABLE_SIZE);
     }
     if work.len() < 2 * n {
         return Outcome::refused(Answer::WORK_SPACE);
     }
-    let s = Shape { cells: n };
     if h as usize >= s.holders() {
         return Outcome::refused(Answer::HOLDER);
     }
@@ -86,4 +88,11 @@ pub fn write(table: &[u32], work: &mut [u32], h: u32, out: &mut [u8]) -> Outcome
     }
     let x = table::holder_of(s, table, h as usize);
     write_list(s, table, x, out)
+}
+
+// On a table with four words a cell.
+pub fn write(table: &[u32], work: &mut [u32], h: u32, out: &mut [u8]) -> Outcome
+    ensures { λ r. ⌜ wrote r (now (work .exit)) (now (out .exit)) ≡ writeOut (now (table .entry)) (now (work .entry)) h (now (out .entry)) ⌝ }
+{
+    write_form(Form::Four, table, work, h, out)
 }

@@ -1,7 +1,7 @@
 -- `cells::item_of` meets its contract.
 use mathlib.Core.Path.{sym, _∙_}
 use borrow.Author.Needs.{needs}
-use Rattle.cells.specs.StepLaws.{item-null, item-some}
+use Rattle.cells.specs.laws.StepLaws.{item-null, item-some}
 use Rattle.cells.proofs.item_of.Statement.{statement}
 use Rattle.cells.proofs.item_of.Tie as tie
 

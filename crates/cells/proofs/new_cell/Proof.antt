@@ -4,7 +4,7 @@ use mathlib.Core.Path.{ap}
 use borrow.Author.Needs.{needs}
 use Rattle.table.specs.Fields.{cell, putCell, putFree}
 use Rattle.table.specs.View.{view}
-use Rattle.table.specs.ViewLaws.{after, said}
+use Rattle.table.specs.laws.ViewLaws.{after, said}
 use Rattle.cells.proofs.new_cell.Statement.{statement}
 use Rattle.cells.proofs.new_cell.Tie as tie
 

@@ -8,8 +8,8 @@ use borrow.Author.Needs.{needs}
 use Rattle.pool.specs.Pool.{Cell}
 use Rattle.table.specs.Fields.{celled, putCount}
 use Rattle.table.specs.View.{view}
-use Rattle.table.specs.ViewLaws.{itself, said}
-use Rattle.cells.specs.StepLaws.{share-null, share-on}
+use Rattle.table.specs.laws.ViewLaws.{itself, said}
+use Rattle.cells.specs.laws.StepLaws.{share-null, share-on}
 use Rattle.cells.proofs.share.Statement.{statement}
 use Rattle.cells.proofs.share.Tie as tie
 

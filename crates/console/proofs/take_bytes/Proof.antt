@@ -2,7 +2,7 @@
 use native.Mathlib.Omega.{arith}
 use Prim.Native.Nat.{_-_}
 use borrow.Author.Needs.{needs}
-use Rattle.console.specs.StandingLaws.{feeds}
+use Rattle.console.specs.laws.StandingLaws.{feeds}
 use Rattle.console.proofs.take_bytes.Statement.{statement}
 use Rattle.console.proofs.take_bytes.Tie as tie
 

@@ -1,6 +1,6 @@
 -- `console::turn` meets its contract.
 use borrow.Author.Needs.{needs}
-use Rattle.console.specs.StandingLaws.{stands-line, stands-bytes, stands-read, stands-end}
+use Rattle.console.specs.laws.StandingLaws.{stands-line, stands-bytes, stands-read, stands-end}
 use Rattle.console.proofs.turn.Statement.{statement}
 use Rattle.console.proofs.turn.Tie as tie
 

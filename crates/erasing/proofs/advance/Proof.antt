@@ -3,11 +3,11 @@ use mathlib.Core.Path.{_≡_, ap, sym, _∙_}
 use native.Mathlib.Omega.{arith}
 use borrow.Author.Needs.{needs}
 use Rattle.cells.specs.Range.{holder-head}
-use Rattle.pool.specs.Advance.{holder-live}
-use Rattle.pool.specs.AdvanceWays.{adv-alone}
+use Rattle.pool.specs.laws.Advance.{holder-live}
+use Rattle.pool.specs.laws.AdvanceWays.{adv-alone}
 use Rattle.pool.specs.Pool.{countOf, holder}
 use Rattle.table.specs.View.{view}
-use Rattle.table.specs.ViewLaws.{said}
+use Rattle.table.specs.laws.ViewLaws.{said}
 use Rattle.erasing.proofs.advance.Statement.{statement}
 use Rattle.erasing.proofs.advance.Tie as tie
 

@@ -2,10 +2,10 @@
 use mathlib.Core.Path.{ap}
 use native.Mathlib.Omega.{arith}
 use borrow.Author.Needs.{needs}
-use Rattle.erasing.specs.StepLaws.{drop-shared, drop-atom, drop-list}
+use Rattle.erasing.specs.laws.StepLaws.{drop-shared, drop-atom, drop-list}
 use Rattle.pool.specs.Pool.{Pool}
 use Rattle.table.specs.Fields.{putNext, putFree}
-use Rattle.table.specs.ViewLaws.{after}
+use Rattle.table.specs.laws.ViewLaws.{after}
 use Rattle.erasing.proofs.drop_arrow.Statement.{statement}
 use Rattle.erasing.proofs.drop_arrow.Tie as tie
 

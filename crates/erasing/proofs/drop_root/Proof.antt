@@ -2,13 +2,13 @@
 use mathlib.Core.Path.{_≡_, refl, ap, sym, _∙_}
 use native.Mathlib.Nat.{pos-of-ne-zero, le-trans}
 use Rattle.loops.specs.Loop.{steps, Going, begin, before, again, less, finish}
-use Rattle.pool.specs.Drop.{stepped}
+use Rattle.pool.specs.laws.Drop.{stepped}
 use Rattle.pool.specs.Erase.{Dropping}
 use Rattle.table.specs.View.{greatestCount, view, Table}
-use Rattle.table.specs.ViewLaws.{pool-path}
+use Rattle.table.specs.laws.ViewLaws.{pool-path}
 use Rattle.erasing.specs.Erasing.{halted, Fine, state, begun, most}
-use Rattle.erasing.specs.StepLaws.{halted-yes, halted-wait}
-use Rattle.erasing.specs.Ends.{root-ends, is-dropped}
+use Rattle.erasing.specs.laws.StepLaws.{halted-yes, halted-wait}
+use Rattle.erasing.specs.laws.Ends.{root-ends, is-dropped}
 use Rattle.erasing.proofs.drop_root.Statement.{statement}
 use Rattle.erasing.proofs.drop_root.Tie as tie
 

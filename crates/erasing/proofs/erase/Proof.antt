@@ -6,9 +6,9 @@ use borrow.Author.Needs.{needs}
 use Rattle.pool.specs.Erase.{dropped}
 use Rattle.table.specs.Fields.{putHolder}
 use Rattle.table.specs.View.{greatestCount, view}
-use Rattle.table.specs.ViewLaws.{after, said}
+use Rattle.table.specs.laws.ViewLaws.{after, said}
 use Rattle.erasing.specs.Erasing.{less}
-use Rattle.erasing.specs.Ends.{holder-rooted, is-erase}
+use Rattle.erasing.specs.laws.Ends.{holder-rooted, is-erase}
 use Rattle.erasing.proofs.erase.Statement.{statement}
 use Rattle.erasing.proofs.erase.Tie as tie
 
@@ -18,7 +18,7 @@ holder-of-requires c κs = search needs
 drop-root-requires : tie.Need-drop-root-requires
 drop-root-requires c κs =
     let start = c .before .before .before .before in
-    (start .pre .0, rw (c .before .holder-of .ensures .0) (holder-rooted (greatestCount _) _ _ (start .pre .1 .1) (omega arith) (omega arith)))
+    (start .pre .0, rw (c .before .holder-of .ensures .0) (holder-rooted (greatestCount (start .args .s)) _ _ (start .pre .1 .1) (omega arith) (omega arith)))
 
 set-holder-requires : tie.Need-set-holder-requires
 set-holder-requires c κs = search needs

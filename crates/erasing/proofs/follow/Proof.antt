@@ -1,12 +1,12 @@
 -- `erasing::follow` meets its contract.
 use mathlib.Core.Path.{_≡_, refl, ap, sym, _∙_}
 use native.Mathlib.Nat.{pos-of-ne-zero}
-use Rattle.erasing.specs.StepLaws.{halted-at}
+use Rattle.erasing.specs.laws.StepLaws.{halted-at}
 use Rattle.table.specs.View.{view, Table, greatestCount}
 use Rattle.pool.specs.Erase.{Dropping, total}
 use Rattle.erasing.specs.Erasing.{Fine, state, Later}
-use Rattle.erasing.specs.LaterLaws.{at-start, one-more, fine-there}
-use Rattle.erasing.specs.Counts.{step-total}
+use Rattle.erasing.specs.laws.LaterLaws.{at-start, one-more, fine-there}
+use Rattle.erasing.specs.laws.Counts.{step-total}
 use Rattle.erasing.proofs.follow.Statement.{statement}
 use Rattle.erasing.proofs.follow.Tie as tie
 

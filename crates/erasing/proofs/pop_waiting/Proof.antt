@@ -1,6 +1,6 @@
 -- `erasing::pop_waiting` meets its contract.
 use borrow.Author.Needs.{needs}
-use Rattle.erasing.specs.StepLaws.{pop-one}
+use Rattle.erasing.specs.laws.StepLaws.{pop-one}
 use Rattle.erasing.proofs.pop_waiting.Statement.{statement}
 use Rattle.erasing.proofs.pop_waiting.Tie as tie
 

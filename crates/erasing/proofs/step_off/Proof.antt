@@ -4,13 +4,13 @@ use Prim.Native.Nat.{_-_}
 use native.Mathlib.Omega.{arith}
 use borrow.Author.Needs.{needs}
 use Rattle.cells.specs.Range.{count-high, Head, live-head}
-use Rattle.pool.specs.Bound.{count-bound}
+use Rattle.pool.specs.laws.Bound.{count-bound}
 use Rattle.pool.specs.Operations.{share}
 use Rattle.pool.specs.Pool.{Pool, countOf}
 use Rattle.table.specs.Fields.{celled, putCount, putHolder}
 use Rattle.table.specs.View.{view}
-use Rattle.table.specs.ViewLaws.{after, said}
-use Rattle.erasing.specs.AdvanceLaws.{is-adv, tail-fits}
+use Rattle.table.specs.laws.ViewLaws.{after, said}
+use Rattle.erasing.specs.laws.AdvanceLaws.{is-adv, tail-fits}
 use Rattle.erasing.proofs.step_off.Statement.{statement}
 use Rattle.erasing.proofs.step_off.Tie as tie
 

@@ -3,10 +3,10 @@ use mathlib.Core.Path.{ap}
 use native.Mathlib.Omega.{arith}
 use borrow.Author.Needs.{needs}
 use Rattle.cells.specs.Range.{Head, live-head, ranged}
-use Rattle.heads.specs.HeadLaws.{is-decap}
+use Rattle.heads.specs.laws.HeadLaws.{is-decap}
 use Rattle.table.specs.Fields.{putNext, putFree, putHolder}
 use Rattle.table.specs.View.{view}
-use Rattle.table.specs.ViewLaws.{after, said}
+use Rattle.table.specs.laws.ViewLaws.{after, said}
 use Rattle.pool.specs.Pool.{Pool}
 use Rattle.heads.proofs.behead.Statement.{statement}
 use Rattle.heads.proofs.behead.Tie as tie

@@ -1,9 +1,9 @@
 -- `heads::borrow` meets its contract.
 use borrow.Author.Needs.{needs}
 use Rattle.cells.specs.Range.{holder-high, count-high}
-use Rattle.heads.specs.HeadLaws.{is-borrow}
+use Rattle.heads.specs.laws.HeadLaws.{is-borrow}
 use Rattle.table.specs.Fields.{putHolder}
-use Rattle.table.specs.ViewLaws.{after, said}
+use Rattle.table.specs.laws.ViewLaws.{after, said}
 use Rattle.heads.proofs.borrow.Statement.{statement}
 use Rattle.heads.proofs.borrow.Tie as tie
 

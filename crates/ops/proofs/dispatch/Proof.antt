@@ -8,7 +8,7 @@ use Rattle.pool.specs.Pool.{Sound}
 use Rattle.pool.specs.Script.{usesB, Operation}
 use Rattle.table.specs.View.{holderCount, view, Table}
 use Rattle.ops.specs.Replies.{operation}
-use Rattle.ops.specs.WordLaws.{in-one, in-two, code-range, above, just}
+use Rattle.ops.specs.laws.WordLaws.{in-one, in-two, code-range, above, just}
 use Rattle.ops.proofs.dispatch.Statement.{statement}
 use Rattle.ops.proofs.dispatch.Tie as tie
 

@@ -8,7 +8,7 @@ use native.Mathlib.Omega.{arith}
 use borrow.Author.Needs.{needs}
 use Rattle.pool.specs.Script.{PFA, LENGTH, usesB}
 use Rattle.table.specs.View.{holderCount}
-use Rattle.ops.specs.WordLaws.{early-code, early-a, early-one, early-b, early-same, early-two}
+use Rattle.ops.specs.laws.WordLaws.{early-code, early-a, early-one, early-b, early-same, early-two}
 use Rattle.ops.proofs.early.Statement.{statement}
 use Rattle.ops.proofs.early.Tie as tie
 

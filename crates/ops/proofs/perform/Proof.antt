@@ -6,8 +6,8 @@ use Rattle.pool.specs.Script.{Operation}
 use Rattle.pool.specs.Pool.{Pool}
 use Rattle.table.specs.View.{view}
 use Rattle.ops.specs.Replies.{operation}
-use Rattle.ops.specs.GivesLaws.{refuses}
-use Rattle.ops.specs.WordLaws.{early-refused, early-passed}
+use Rattle.ops.specs.laws.GivesLaws.{refuses}
+use Rattle.ops.specs.laws.WordLaws.{early-refused, early-passed}
 use Rattle.ops.proofs.perform.Statement.{statement}
 use Rattle.ops.proofs.perform.Tie as tie
 

@@ -2,7 +2,7 @@
 use mathlib.Core.Path.{sym, _∙_}
 use native.Mathlib.Omega.{arith}
 use borrow.Author.Needs.{needs}
-use Rattle.reading.specs.ReadLaws.{Scans, occupied, faulty, no-room, taken, room, reads}
+use Rattle.reading.specs.laws.ReadLaws.{Scans, occupied, faulty, no-room, taken, room, reads}
 use Rattle.reading.proofs.into.Statement.{statement}
 use Rattle.reading.proofs.into.Tie as tie
 

@@ -5,7 +5,7 @@ use borrow.Author.Needs.{needs}
 use mathlib.Core.Path.{_≡_, sym, _∙_}
 use native.Mathlib.Omega.{arith}
 use Rattle.scripts.specs.Midway.{Midway}
-use Rattle.scripts.specs.MidwayLaws.{begun, onward, refused-at, all-done}
+use Rattle.scripts.specs.laws.MidwayLaws.{begun, onward, refused-at, all-done}
 use Rattle.pool.specs.Script.{performed}
 use Rattle.calls.specs.Run.{operations}
 use Rattle.table.specs.View.{view}

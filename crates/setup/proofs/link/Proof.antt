@@ -7,8 +7,8 @@ use borrow.Author.Needs.{needs}
 use Rattle.pool.specs.Pool.{Cell}
 use Rattle.table.specs.Fields.{celled, putNext}
 use Rattle.table.specs.View.{view, Shows}
-use Rattle.table.specs.ViewLaws.{itself, said, after}
-use Rattle.setup.specs.Linked.{linked, linked-step, linked-all}
+use Rattle.table.specs.laws.ViewLaws.{itself, said, after}
+use Rattle.setup.specs.laws.Linked.{linked, linked-step, linked-all}
 use Rattle.setup.proofs.link.Statement.{statement}
 use Rattle.setup.proofs.link.Tie as tie
 

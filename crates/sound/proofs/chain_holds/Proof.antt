@@ -4,7 +4,7 @@ use Prim.Native.Nat.{_-_}
 use native.Mathlib.Omega.{arith}
 use Rattle.pool.specs.Check.{chained}
 use Rattle.table.specs.View.{view}
-use Rattle.sound.specs.ChainLaws.{stop-far, stop-live, stop-long, go-on, at-end}
+use Rattle.sound.specs.laws.ChainLaws.{stop-far, stop-live, stop-long, go-on, at-end}
 use borrow.Author.Needs.{needs}
 use borrow.Author.Needs.{needs}
 use borrow.Author.Needs.{needs}

@@ -5,7 +5,7 @@ use native.Mathlib.Omega.{arith}
 use Rattle.pool.specs.Tally.{same-le}
 use Rattle.table.specs.View.{view}
 use Rattle.sound.specs.Mirror.{Copied}
-use Rattle.sound.specs.CopyLaws.{Copying, copy-start, copy-step, copy-end}
+use Rattle.sound.specs.laws.CopyLaws.{Copying, copy-start, copy-step, copy-end}
 use borrow.Author.Needs.{needs}
 use borrow.Author.Needs.{needs}
 use borrow.Author.Needs.{needs}

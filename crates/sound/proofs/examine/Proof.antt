@@ -1,8 +1,8 @@
 -- `sound::examine` meets its contract.
 use native.Mathlib.Omega.{arith}
 use Rattle.table.specs.View.{view}
-use Rattle.sound.specs.PeelLaws.{gone-fits}
-use Rattle.sound.specs.DecidedLaws.{frees-few, decided}
+use Rattle.sound.specs.laws.PeelLaws.{gone-fits}
+use Rattle.sound.specs.laws.DecidedLaws.{frees-few, decided}
 use borrow.Author.Needs.{needs}
 use Rattle.sound.proofs.examine.Statement.{statement}
 use Rattle.sound.proofs.examine.Tie as tie

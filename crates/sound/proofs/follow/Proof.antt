@@ -1,6 +1,6 @@
 -- `sound::follow` meets its contract.
 use native.Mathlib.Omega.{arith}
-use Rattle.sound.specs.MirrorLaws.{follow-null, follow-far, follow-free, follow-one, follow-last}
+use Rattle.sound.specs.laws.MirrorLaws.{follow-null, follow-far, follow-free, follow-one, follow-last}
 use borrow.Author.Needs.{needs}
 use Rattle.sound.proofs.follow.Statement.{statement}
 use Rattle.sound.proofs.follow.Tie as tie

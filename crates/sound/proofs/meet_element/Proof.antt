@@ -1,6 +1,6 @@
 -- `sound::meet_element` meets its contract.
 use native.Mathlib.Omega.{arith}
-use Rattle.sound.specs.TakeLaws.{typed-yes, typed-no, hand-few, no-element, element-room, some-element, hand-cell}
+use Rattle.sound.specs.laws.TakeLaws.{typed-yes, typed-no, hand-few, no-element, element-room, some-element, hand-cell}
 use borrow.Author.Needs.{needs}
 use Rattle.sound.proofs.meet_element.Statement.{statement}
 use Rattle.sound.proofs.meet_element.Tie as tie

@@ -5,7 +5,7 @@ use native.Mathlib.Omega.{arith}
 use Rattle.pool.specs.Check.{afterHolders}
 use Rattle.table.specs.View.{holderCount, view}
 use Rattle.sound.specs.Mirror.{Shown}
-use Rattle.sound.specs.HolderLaws.{Meeting, holders-start, holders-room, holders-step, holders-end}
+use Rattle.sound.specs.laws.HolderLaws.{Meeting, holders-start, holders-room, holders-step, holders-end}
 use borrow.Author.Needs.{needs}
 use borrow.Author.Needs.{needs}
 use borrow.Author.Needs.{needs}

@@ -4,7 +4,7 @@ use Prim.Native.Nat.{_-_}
 use native.Mathlib.Omega.{arith}
 use Rattle.table.specs.View.{view}
 use Rattle.sound.specs.Mirror.{stateAt, Reached}
-use Rattle.sound.specs.PeelLaws.{start-room, peel-start, taking, less-left, peel-step, peel-end}
+use Rattle.sound.specs.laws.PeelLaws.{start-room, peel-start, taking, less-left, peel-step, peel-end}
 use Rattle.sound.proofs.peel_all.Statement.{statement}
 use Rattle.sound.proofs.peel_all.Tie as tie
 

@@ -1,7 +1,7 @@
 -- `sound::refill` meets its contract.
 use Prim.Native.Nat.{_+_, _-_}
 use native.Mathlib.Omega.{arith}
-use Rattle.sound.specs.MirrorLaws.{refill-held, refill-empty, refill-top}
+use Rattle.sound.specs.laws.MirrorLaws.{refill-held, refill-empty, refill-top}
 use borrow.Author.Needs.{needs}
 use Rattle.sound.proofs.refill.Statement.{statement}
 use Rattle.sound.proofs.refill.Tie as tie

@@ -1,6 +1,6 @@
 -- `sound::stow` meets its contract.
 use native.Mathlib.Omega.{arith}
-use Rattle.sound.specs.MirrorLaws.{stow-some}
+use Rattle.sound.specs.laws.MirrorLaws.{stow-some}
 use borrow.Author.Needs.{needs}
 use Rattle.sound.proofs.stow.Statement.{statement}
 use Rattle.sound.proofs.stow.Tie as tie

@@ -1,5 +1,5 @@
 -- `sound::take_cell` meets its contract.
-use Rattle.sound.specs.TakeLaws.{hand-cell, next-room, took}
+use Rattle.sound.specs.laws.TakeLaws.{hand-cell, next-room, took}
 use borrow.Author.Needs.{needs}
 use Rattle.sound.proofs.take_cell.Statement.{statement}
 use Rattle.sound.proofs.take_cell.Tie as tie

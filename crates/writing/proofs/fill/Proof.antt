@@ -5,7 +5,7 @@ use native.Mathlib.Omega.{arith}
 use borrow.Author.Needs.{needs}
 use lib.ListN.{replicate}
 use lib.Seq.{paste, paste-zero}
-use Rattle.writing.specs.PutLaws.{fill-step, fill-length}
+use Rattle.writing.specs.laws.PutLaws.{fill-step, fill-length}
 use Rattle.writing.proofs.fill.Statement.{statement}
 use Rattle.writing.proofs.fill.Tie as tie
 

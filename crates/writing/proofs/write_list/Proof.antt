@@ -9,7 +9,7 @@ use Rattle.text.specs.Limits.{textMost}
 use Rattle.text.specs.Writing.{judged}
 use Rattle.writing.specs.Measures.{listAt, textAt, Fitting}
 use Rattle.writing.specs.RecordEnd.{recordEnd}
-use Rattle.writing.specs.WroteLaws.{fitting, list-refused, list-done}
+use Rattle.writing.specs.laws.WroteLaws.{fitting, list-refused, list-done}
 use Rattle.writing.proofs.write_list.Statement.{statement}
 use Rattle.writing.proofs.write_list.Tie as tie
 

@@ -7,7 +7,7 @@ use borrow.Author.Needs.{needs}
 use Rattle.lines.specs.Commands.{malformed, new, operation, reading, writing}
 use Rattle.lines.specs.Meaning.{meant}
 use Rattle.console.specs.Session.{does}
-use Rattle.console.specs.SessionLaws.{speaks, speaks-long, speaks-command}
+use Rattle.console.specs.laws.SessionLaws.{speaks, speaks-long, speaks-command}
 use Rattle.console.proofs.answer.answer.Statement.{statement}
 use Rattle.console.proofs.answer.answer.Tie as tie
 

@@ -2,7 +2,7 @@
 use native.Mathlib.Omega.{arith}
 use borrow.Author.Needs.{needs}
 use Rattle.lines.specs.Printed.{question}
-use Rattle.console.specs.SessionLaws.{printed}
+use Rattle.console.specs.laws.SessionLaws.{printed}
 use Rattle.console.proofs.answer.ask.Statement.{statement}
 use Rattle.console.proofs.answer.ask.Tie as tie
 

@@ -3,7 +3,7 @@ use Prim.Native.Nat.{_-_}
 use native.Mathlib.Omega.{arith}
 use lib.ListN.{take}
 use borrow.Author.Needs.{needs}
-use Rattle.console.specs.SessionLaws.{turns-new}
+use Rattle.console.specs.laws.SessionLaws.{turns-new}
 use Rattle.console.proofs.answer.do_new.Statement.{statement}
 use Rattle.console.proofs.answer.do_new.Tie as tie
 

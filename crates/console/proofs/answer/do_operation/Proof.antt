@@ -4,7 +4,7 @@ use mathlib.Core.Path.{_≡_, _∙_}
 use native.Mathlib.Omega.{arith}
 use lib.Seq.{length-take-le}
 use borrow.Author.Needs.{needs}
-use Rattle.console.specs.SessionLaws.{turns-operation}
+use Rattle.console.specs.laws.SessionLaws.{turns-operation}
 use Rattle.console.proofs.answer.do_operation.Statement.{statement}
 use Rattle.console.proofs.answer.do_operation.Tie as tie
 

@@ -5,7 +5,7 @@ use mathlib.Core.Path.{_≡_, ap, _∙_}
 use lib.ListN.{take}
 use lib.Seq.{length-take-le}
 use borrow.Author.Needs.{needs}
-use Rattle.console.specs.ReadLaws.{turns-reading}
+use Rattle.console.specs.laws.ReadLaws.{turns-reading}
 use Rattle.console.proofs.answer.do_reading.Statement.{statement}
 use Rattle.console.proofs.answer.do_reading.Tie as tie
 

@@ -11,9 +11,10 @@ use Rattle.pool.specs.Operations.{listOf}
 use Rattle.text.specs.Limits.{textMost}
 use Rattle.text.specs.ListText.{written}
 use Rattle.calls.specs.Entry.{shown, over}
-use Rattle.console.specs.WriteLaws.{Writes, writes, text-room, count-room, trims, line-room, speaks-refused, speaks-text}
+use Rattle.console.specs.laws.WriteLaws.{Writes, writes, text-room, count-room, trims, line-room, speaks-refused, speaks-text}
 use Rattle.console.proofs.answer.do_writing.Statement.{statement}
 use Rattle.console.proofs.answer.do_writing.Tie as tie
+use Rattle.table.specs.declared.Form.the-variants.{Four}
 
 -- what lay in the room for the text, and the list that is to be written there
 abbrev old : tie.Start → List ℕ
@@ -23,7 +24,7 @@ old-long : (start : tie.Start) → length (old start) ≡ textMost
 old-long start = length-take-le textMost (start .args .texts .now) (omega (arith, start .pre .1 .1))
 
 abbrev list : tie.Start → Lst
-list start = listOf (shown (take (start .args .used - 0) (start .args .table .now))) (start .args .h)
+list start = listOf (shown Four (take (start .args .used - 0) (start .args .table .now))) (start .args .h)
 
 -- what the call of `write` gives
 told : (c : tie.After-write) →

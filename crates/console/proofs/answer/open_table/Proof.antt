@@ -6,11 +6,13 @@ use borrow.Author.Tests.{not-true, not-false}
 use lib.ListN.{length, take}
 use lib.Seq.{length-take-le}
 use borrow.Author.Needs.{needs}
-use Rattle.table.specs.Limits.{tableWords}
-use Rattle.table.specs.SizesLaws.{fits-told}
-use Rattle.console.specs.SessionLaws.{opens, keeps-old}
+use Rattle.table.specs.Limits.{holdersMost, tableWords}
+use Rattle.table.specs.View.{shape}
+use Rattle.table.specs.laws.SizesLaws.{fits-told}
+use Rattle.console.specs.laws.SessionLaws.{opens, keeps-old}
 use Rattle.console.proofs.answer.open_table.Statement.{statement}
 use Rattle.console.proofs.answer.open_table.Tie as tie
+use Rattle.table.specs.declared.Form.the-variants.{Four}
 
 add-words : tie.Need-add-words
 add-words c = search needs
@@ -38,7 +40,7 @@ part-set-up-start c = search needs
 part-set-up-end : tie.Need-part-set-up-end
 part-set-up-end c =
     let start = c .before .before .before in
-    let f = fits-told (start .args .n) (tableWords (start .args .n)) (sym (c .before .fits2 .ensures) ∙ not-false _ (c .if1 .left)) in
+    let f = fits-told (shape Four holdersMost (start .args .n)) (tableWords Four holdersMost (start .args .n)) (sym (c .before .fits2 .ensures) ∙ not-false _ (c .if1 .left)) in
     omega (arith, f .few, start .pre .0)
 
 set-up-requires : tie.Need-set-up-requires
@@ -53,8 +55,8 @@ returns-2 c =
     let start = else1 .before .before .before in
     let a = start .args in
     let e = sym (else1 .before .fits2 .ensures) ∙ not-false _ (else1 .if1 .left) in
-    let w = tableWords (a .n) in
-    let f = fits-told (a .n) w e in
+    let w = tableWords Four holdersMost (a .n) in
+    let f = fits-told (shape Four holdersMost (a .n)) w e in
     let z : w - 0 ≡ w = omega arith in
     let k : length (take (w - 0) (a .table .now)) ≡ w = length-take-le (w - 0) (a .table .now) (omega (arith, f .few, start .pre .0)) ∙ z in
     opens (take (a .used) (a .table .now)) (take (w - 0) (a .table .now)) (c .before .before .set-up .last .0) _ (a .n) e k

@@ -5,7 +5,7 @@ use Prim.Native.Nat.{ℕ}
 use borrow.Author.Needs.{needs}
 use Rattle.lines.specs.Printed.{reply}
 use Rattle.console.specs.Kept.{Prints}
-use Rattle.console.specs.SessionLaws.{printed, reply-short}
+use Rattle.console.specs.laws.SessionLaws.{printed, reply-short}
 use Rattle.console.proofs.answer.tell.Statement.{statement}
 use Rattle.console.proofs.answer.tell.Tie as tie
 

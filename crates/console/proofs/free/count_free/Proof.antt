@@ -5,7 +5,7 @@ use native.Mathlib.Omega.{arith}
 use Prim.Native.Nat.{ℕ, _-_, _≤_}
 use Rattle.pool.specs.Tally.{same}
 use Rattle.table.specs.View.{view}
-use Rattle.console.specs.FreeLaws.{Counts, counts-none, counts-one, counts-all}
+use Rattle.console.specs.laws.FreeLaws.{Counts, counts-none, counts-one, counts-all}
 use Rattle.console.proofs.free.count_free.Statement.{statement}
 use Rattle.console.proofs.free.count_free.Tie as tie
 

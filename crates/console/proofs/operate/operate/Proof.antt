@@ -5,7 +5,7 @@ use mathlib.Core.List.{List}
 use lib.ListN.{getD}
 use borrow.Author.Needs.{needs}
 use Rattle.answers.specs.declared.Outcome.{Outcome}
-use Rattle.console.specs.SessionLaws.{says}
+use Rattle.console.specs.laws.SessionLaws.{says}
 use Rattle.console.proofs.operate.operate.Statement.{statement}
 use Rattle.console.proofs.operate.operate.Tie as tie
 

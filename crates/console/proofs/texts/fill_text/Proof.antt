@@ -3,8 +3,8 @@ use native.Mathlib.Omega.{arith}
 use lib.ListN.{length, drop, length-drop}
 use borrow.Author.Needs.{needs}
 use Rattle.lines.specs.Printed.{filled}
-use Rattle.lines.specs.RecordLaws.{filled-length, filled-most}
-use Rattle.console.specs.SessionLaws.{printed}
+use Rattle.lines.specs.laws.RecordLaws.{filled-length, filled-most}
+use Rattle.console.specs.laws.SessionLaws.{printed}
 use Rattle.console.proofs.texts.fill_text.Statement.{statement}
 use Rattle.console.proofs.texts.fill_text.Tie as tie
 

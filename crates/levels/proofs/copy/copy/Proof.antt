@@ -10,9 +10,9 @@ use Rattle.pool.specs.Operations.{item, Made}
 use Rattle.pool.specs.Pool.{Pool, InPool}
 use Rattle.table.specs.Fields.{celled, putFree}
 use Rattle.table.specs.View.{holderCount, view, Table, IsCell}
-use Rattle.table.specs.ViewLaws.{said, pool-path}
+use Rattle.table.specs.laws.ViewLaws.{said, pool-path}
 use Rattle.levels.specs.Copying.{copying, over, moved, told, Sure, made, placed}
-use Rattle.levels.specs.CopyingLaws.{share-next, is-copy}
+use Rattle.levels.specs.laws.CopyingLaws.{share-next, is-copy}
 use Rattle.levels.proofs.copy.copy.Statement.{statement}
 use Rattle.levels.proofs.copy.copy.Tie as tie
 

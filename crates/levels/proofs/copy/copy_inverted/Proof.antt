@@ -7,9 +7,9 @@ use borrow.Author.Needs.{needs}
 use Rattle.pool.specs.Pool.{Pool, holder}
 use Rattle.table.specs.Fields.{putHolder}
 use Rattle.table.specs.View.{view}
-use Rattle.table.specs.ViewLaws.{after, said}
+use Rattle.table.specs.laws.ViewLaws.{after, said}
 use Rattle.levels.specs.Copying.{made, placed, Copies}
-use Rattle.levels.specs.CopyingLaws.{room-copies, head-top, is-cinv}
+use Rattle.levels.specs.laws.CopyingLaws.{room-copies, head-top, is-cinv}
 use Rattle.levels.proofs.copy.copy_inverted.Statement.{statement}
 use Rattle.levels.proofs.copy.copy_inverted.Tie as tie
 

@@ -2,8 +2,8 @@
 use native.Mathlib.Omega.{arith}
 use borrow.Author.Needs.{needs}
 use Rattle.table.specs.Fields.{cell, putCell}
-use Rattle.table.specs.ViewLaws.{after, said}
-use Rattle.levels.specs.CopyingLaws.{is-twin}
+use Rattle.table.specs.laws.ViewLaws.{after, said}
+use Rattle.levels.specs.laws.CopyingLaws.{is-twin}
 use Rattle.levels.proofs.copy.twin.Statement.{statement}
 use Rattle.levels.proofs.copy.twin.Tie as tie
 

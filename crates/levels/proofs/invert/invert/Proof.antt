@@ -8,8 +8,8 @@ use Rattle.pool.specs.Pool.{Pool}
 use Rattle.pool.specs.Operations.{flip}
 use Rattle.table.specs.Fields.{celled, putHolder}
 use Rattle.table.specs.View.{view}
-use Rattle.table.specs.ViewLaws.{after, said}
-use Rattle.levels.specs.TurningLaws.{own-turns, head-top, is-inv}
+use Rattle.table.specs.laws.ViewLaws.{after, said}
+use Rattle.levels.specs.laws.TurningLaws.{own-turns, head-top, is-inv}
 use Rattle.levels.proofs.invert.invert.Statement.{statement}
 use Rattle.levels.proofs.invert.invert.Tie as tie
 

@@ -8,10 +8,10 @@ use Prim.Native.Nat.{ℕ}
 use Rattle.pool.specs.Pool.{Cell, Pool}
 use Rattle.table.specs.Fields.{celled}
 use Rattle.table.specs.View.{view, Table, IsCell}
-use Rattle.table.specs.ViewLaws.{pool-path}
+use Rattle.table.specs.laws.ViewLaws.{pool-path}
 use Rattle.loops.specs.Loop.{steps, Going, begin, before, again, less, finish}
 use Rattle.levels.specs.Turning.{Turning, turning, over, moved, Sure}
-use Rattle.levels.specs.TurningLaws.{is-flip}
+use Rattle.levels.specs.laws.TurningLaws.{is-flip}
 use Rattle.levels.proofs.invert.turn.Statement.{statement}
 use Rattle.levels.proofs.invert.turn.Tie as tie
 

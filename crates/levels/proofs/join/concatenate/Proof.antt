@@ -9,8 +9,8 @@ use Rattle.cells.specs.Range.{holder-high}
 use Rattle.pool.specs.Pool.{holder}
 use Rattle.table.specs.Fields.{putNext, putHolder}
 use Rattle.table.specs.View.{view}
-use Rattle.table.specs.ViewLaws.{itself, after, said}
-use Rattle.levels.specs.Joining.{join-none, join-null, join-last, last-cell}
+use Rattle.table.specs.laws.ViewLaws.{itself, after, said}
+use Rattle.levels.specs.laws.Joining.{join-none, join-null, join-last, last-cell}
 use Rattle.levels.proofs.join.concatenate.Statement.{statement}
 use Rattle.levels.proofs.join.concatenate.Tie as tie
 

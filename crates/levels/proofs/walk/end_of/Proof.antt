@@ -5,9 +5,9 @@ use native.Mathlib.Omega.{arith}
 use borrow.Author.Needs.{needs}
 use lib.ListN.{length}
 use Rattle.table.specs.View.{view, IsCell}
-use Rattle.pool.specs.Level.{Onward, onward, none-left}
+use Rattle.pool.specs.laws.Level.{Onward, onward, none-left}
 use Rattle.pool.specs.Operations.{span}
-use Rattle.levels.specs.Ending.{Ending, ending, ending-on}
+use Rattle.levels.specs.laws.Ending.{Ending, ending, ending-on}
 use Rattle.levels.proofs.walk.end_of.Statement.{statement}
 use Rattle.levels.proofs.walk.end_of.Tie as tie
 

@@ -6,7 +6,7 @@ use lib.ListN.{length}
 use Rattle.table.specs.View.{view, IsCell}
 use Rattle.pool.specs.Operations.{span}
 use Rattle.pool.specs.Pool.{InPool}
-use Rattle.levels.specs.Beside.{Beside, beside, Pair, pair, enough, too-few}
+use Rattle.levels.specs.laws.Beside.{Beside, beside, Pair, pair, enough, too-few}
 use Rattle.levels.proofs.walk.fits.Statement.{statement}
 use Rattle.levels.proofs.walk.fits.Tie as tie
 

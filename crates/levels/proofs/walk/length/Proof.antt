@@ -5,7 +5,7 @@ use native.Mathlib.Omega.{arith}
 use borrow.Author.Needs.{needs}
 use lib.ListN.{length}
 use Rattle.table.specs.View.{view, IsCell}
-use Rattle.pool.specs.Level.{Left, Onward, onward, none-left, span-le, all-left}
+use Rattle.pool.specs.laws.Level.{Left, Onward, onward, none-left, span-le, all-left}
 use Rattle.pool.specs.Operations.{span, lengthOf}
 use Rattle.levels.proofs.walk.length.Statement.{statement}
 use Rattle.levels.proofs.walk.length.Tie as tie

@@ -4,7 +4,7 @@ use mathlib.Core.Path.{_≡_, _∙_}
 use native.Mathlib.Omega.{arith}
 use Prim.Native.Nat.{_-_}
 use lib.ListN.{length}
-use Rattle.lines.specs.GatherLaws.{Gathers-on, gathers-none, gathers-more, gathers-line, gathers-all}
+use Rattle.lines.specs.laws.GatherLaws.{Gathers-on, gathers-none, gathers-more, gathers-line, gathers-all}
 use Rattle.lines.proofs.gather.gather.Statement.{statement}
 use Rattle.lines.proofs.gather.gather.Tie as tie
 

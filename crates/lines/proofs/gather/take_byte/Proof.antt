@@ -3,7 +3,7 @@ use mathlib.Core.Path.{refl}
 use native.Mathlib.Omega.{arith}
 use Prim.Native.Nat.{_+_}
 use borrow.Author.Needs.{needs}
-use Rattle.lines.specs.GatherLaws.{byte-ends, byte-kept, byte-over}
+use Rattle.lines.specs.laws.GatherLaws.{byte-ends, byte-kept, byte-over}
 use Rattle.lines.proofs.gather.take_byte.Statement.{statement}
 use Rattle.lines.proofs.gather.take_byte.Tie as tie
 

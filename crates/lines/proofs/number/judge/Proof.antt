@@ -2,7 +2,7 @@
 use Prim.Native.Nat.{_-_}
 use native.Mathlib.Omega.{arith}
 use borrow.Author.Needs.{needs}
-use Rattle.lines.specs.NumberLaws.{no-digits, many-digits, large, small}
+use Rattle.lines.specs.laws.NumberLaws.{no-digits, many-digits, large, small}
 use Rattle.lines.proofs.number.judge.Statement.{statement}
 use Rattle.lines.proofs.number.judge.Tie as tie
 

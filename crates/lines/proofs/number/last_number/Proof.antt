@@ -3,7 +3,7 @@ use mathlib.Core.Path.{sym, ap, _∙_}
 use borrow.Author.Needs.{needs}
 use Rattle.lines.specs.Meaning.{found}
 use Rattle.lines.specs.Numbers.{ended}
-use Rattle.lines.specs.NumberLaws.{not-last, is-last}
+use Rattle.lines.specs.laws.NumberLaws.{not-last, is-last}
 use Rattle.lines.proofs.number.last_number.Statement.{statement}
 use Rattle.lines.proofs.number.last_number.Tie as tie
 

@@ -5,7 +5,7 @@ use lib.ListN.{getD, drop}
 use borrow.Author.Needs.{needs}
 use Rattle.lines.specs.Meaning.{found}
 use Rattle.lines.specs.Numbers.{blank, number, numberIn, parted}
-use Rattle.lines.specs.NumberLaws.{behind-blank, behind-other, behind-nothing}
+use Rattle.lines.specs.laws.NumberLaws.{behind-blank, behind-other, behind-nothing}
 use Rattle.lines.proofs.number.number_and_blank.Statement.{statement}
 use Rattle.lines.proofs.number.number_and_blank.Tie as tie
 

@@ -6,7 +6,7 @@ use mathlib.Core.Bool.{true}
 use lib.ListN.{length, getD}
 use borrow.Author.Tests.{not-true, not-false}
 use Prim.Native.Nat.{ℕ, _-_, _≤_}
-use Rattle.lines.specs.NumberLaws.{Reads, reads-more, judged-over, judged-out, judged-large, digit-range}
+use Rattle.lines.specs.laws.NumberLaws.{Reads, reads-more, judged-over, judged-out, judged-large, digit-range}
 use Rattle.lines.specs.Numbers.{isDigit}
 use Rattle.lines.specs.Meaning.{found}
 use Rattle.lines.proofs.number.number_at.Statement.{statement}

@@ -1,7 +1,7 @@
 -- `lines::order::operation` meets its contract.
 use mathlib.Core.Path.{_∙_}
 use borrow.Author.Needs.{needs}
-use Rattle.lines.specs.CommandLaws.{is-two, is-one, is-none}
+use Rattle.lines.specs.laws.CommandLaws.{is-two, is-one, is-none}
 use Rattle.lines.proofs.order.operation.Statement.{statement}
 use Rattle.lines.proofs.order.operation.Tie as tie
 

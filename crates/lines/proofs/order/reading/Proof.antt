@@ -3,7 +3,7 @@ use mathlib.Core.Path.{sym, ap, _∙_}
 use borrow.Author.Needs.{needs}
 use Rattle.lines.specs.Meaning.{found}
 use Rattle.lines.specs.Commands.{readingIn}
-use Rattle.lines.specs.CommandLaws.{with-text, no-text}
+use Rattle.lines.specs.laws.CommandLaws.{with-text, no-text}
 use Rattle.lines.proofs.order.reading.Statement.{statement}
 use Rattle.lines.proofs.order.reading.Tie as tie
 

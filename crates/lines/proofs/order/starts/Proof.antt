@@ -4,7 +4,7 @@ use mathlib.Core.Path.{_≡_, sym, _∙_}
 use lib.ListN.{length, drop}
 use Prim.Native.Nat.{_-_}
 use Rattle.lines.specs.Commands.{startsWith}
-use Rattle.lines.specs.CommandLaws.{starts-short, starts-other, starts-same, starts-all}
+use Rattle.lines.specs.laws.CommandLaws.{starts-short, starts-other, starts-same, starts-all}
 use Rattle.lines.proofs.order.starts.Statement.{statement}
 use Rattle.lines.proofs.order.starts.Tie as tie
 

@@ -3,7 +3,7 @@ use mathlib.Core.Path.{sym, ap, _∙_}
 use borrow.Author.Needs.{needs}
 use Rattle.lines.specs.Meaning.{found}
 use Rattle.lines.specs.Commands.{withTwo, withSecond}
-use Rattle.lines.specs.CommandLaws.{second-pfa, second-other}
+use Rattle.lines.specs.laws.CommandLaws.{second-pfa, second-other}
 use Rattle.lines.proofs.order.two.Statement.{statement}
 use Rattle.lines.proofs.order.two.Tie as tie
 

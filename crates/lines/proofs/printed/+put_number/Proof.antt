@@ -6,7 +6,7 @@ use Prim.Native.Nat.{_+_, _/_, _%_, ℕ, _<_}
 use borrow.Fn.Kinds.{In}
 use borrow.Fn.PlainCycle.{Measures, is, falls, and}
 use Rattle.lines.specs.Printed.{decimal}
-use Rattle.lines.specs.PrintedLaws.{puts-then, one-digit, more-digits, first-digits}
+use Rattle.lines.specs.laws.PrintedLaws.{puts-then, one-digit, more-digits, first-digits}
 use Rattle.lines.proofs.printed.put_number.Reads as put-number
 use Rattle.lines.proofs.printed.put_number.Kinds as put-number-kinds
 use Rattle.lines.proofs.printed.put.Reads as put-reads

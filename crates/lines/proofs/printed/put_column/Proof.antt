@@ -4,7 +4,7 @@ use mathlib.Core.List.{[], _∷_}
 use borrow.Author.Needs.{needs}
 use Rattle.lines.specs.Numbers.{digitsMost}
 use Rattle.lines.specs.Printed.{decimal}
-use Rattle.lines.specs.PrintedLaws.{puts-then, decimal-short}
+use Rattle.lines.specs.laws.PrintedLaws.{puts-then, decimal-short}
 use Rattle.lines.proofs.printed.put_column.Statement.{statement}
 use Rattle.lines.proofs.printed.put_column.Tie as tie
 

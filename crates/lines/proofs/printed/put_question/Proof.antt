@@ -1,7 +1,7 @@
 -- `lines::printed::put_question` meets its contract.
 use mathlib.Core.List.{[], _∷_}
 use borrow.Author.Needs.{needs}
-use Rattle.lines.specs.PrintedLaws.{puts-then}
+use Rattle.lines.specs.laws.PrintedLaws.{puts-then}
 use Rattle.lines.proofs.printed.put_question.Statement.{statement}
 use Rattle.lines.proofs.printed.put_question.Tie as tie
 

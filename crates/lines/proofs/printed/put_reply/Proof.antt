@@ -4,7 +4,7 @@ use mathlib.Core.List.{_++_}
 use borrow.Author.Needs.{needs}
 use Rattle.lines.specs.Numbers.{blank}
 use Rattle.lines.specs.Printed.{column, lineFeed}
-use Rattle.lines.specs.PrintedLaws.{puts-then, column-short}
+use Rattle.lines.specs.laws.PrintedLaws.{puts-then, column-short}
 use Rattle.lines.proofs.printed.put_reply.Statement.{statement}
 use Rattle.lines.proofs.printed.put_reply.Tie as tie
 

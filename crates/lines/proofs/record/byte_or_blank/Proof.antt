@@ -3,7 +3,7 @@ use mathlib.Core.Path.{sym}
 use lib.ListN.{List·getD-eq-default}
 use borrow.Author.Needs.{needs}
 use Rattle.lines.specs.Numbers.{blank}
-use Rattle.lines.specs.RecordLaws.{in-range}
+use Rattle.lines.specs.laws.RecordLaws.{in-range}
 use Rattle.lines.proofs.record.byte_or_blank.Statement.{statement}
 use Rattle.lines.proofs.record.byte_or_blank.Tie as tie
 

@@ -6,7 +6,7 @@ use Prim.Native.Nat.{_-_, _≤_}
 use lib.ListN.{length, take, drop, length-set}
 use Rattle.lines.specs.Printed.{filled}
 use Rattle.lines.specs.Meaning.{Puts}
-use Rattle.lines.specs.RecordLaws.{filled-most, fills-nothing, fills-one, fills-all}
+use Rattle.lines.specs.laws.RecordLaws.{filled-most, fills-nothing, fills-one, fills-all}
 use Rattle.lines.proofs.record.fill_record.Statement.{statement}
 use Rattle.lines.proofs.record.fill_record.Tie as tie
 

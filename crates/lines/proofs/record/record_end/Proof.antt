@@ -1,6 +1,6 @@
 -- `lines::record::record_end` meets its contract.
 use borrow.Author.Needs.{needs}
-use Rattle.lines.specs.RecordLaws.{record-end}
+use Rattle.lines.specs.laws.RecordLaws.{record-end}
 use Rattle.lines.proofs.record.record_end.Statement.{statement}
 use Rattle.lines.proofs.record.record_end.Tie as tie
 

@@ -7,10 +7,10 @@ use native.Mathlib.Omega.{arith}
 use borrow.Author.Needs.{needs}
 use Rattle.answers.specs.Answers.{NULL, OCCUPIED}
 use Rattle.ops.specs.Replies.{operation}
-use Rattle.ops.specs.GivesLaws.{refuses, does, first-said}
-use Rattle.ops.specs.TestLaws.{is-null, is-occupied, is-done, none-needed}
-use Rattle.pool.specs.ScriptLaws.{Opened}
-use Rattle.ops.specs.WordLaws.{two}
+use Rattle.ops.specs.laws.GivesLaws.{refuses, does, first-said}
+use Rattle.ops.specs.laws.TestLaws.{is-null, is-occupied, is-done, none-needed}
+use Rattle.pool.specs.laws.ScriptLaws.{Opened}
+use Rattle.ops.specs.laws.WordLaws.{two}
 use Rattle.pool.specs.Pool.{holder, Pool, frees}
 use Rattle.pool.specs.Script.{ADV, effect}
 use Rattle.table.specs.View.{view}

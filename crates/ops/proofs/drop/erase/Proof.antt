@@ -3,13 +3,13 @@ use mathlib.Core.Path.{refl, ap}
 use native.Mathlib.Omega.{arith}
 use borrow.Author.Needs.{needs}
 use Rattle.ops.specs.Replies.{operation}
-use Rattle.ops.specs.GivesLaws.{does}
-use Rattle.ops.specs.TestLaws.{is-done, none-needed}
-use Rattle.ops.specs.WordLaws.{one}
+use Rattle.ops.specs.laws.GivesLaws.{does}
+use Rattle.ops.specs.laws.TestLaws.{is-done, none-needed}
+use Rattle.ops.specs.laws.WordLaws.{one}
 use Rattle.pool.specs.Pool.{Pool, frees}
 use Rattle.pool.specs.Script.{ERASE, Operation, effect}
 use Rattle.table.specs.View.{view}
-use Rattle.ops.specs.Freed.{freed-few}
+use Rattle.ops.specs.laws.Freed.{freed-few}
 use Rattle.ops.specs.declared.Reply.the-variants.{Done}
 use Rattle.ops.proofs.drop.erase.Statement.{statement}
 use Rattle.ops.proofs.drop.erase.Tie as tie

@@ -4,10 +4,10 @@ use Prim.Native.Nat.{ℕ}
 use native.Mathlib.Omega.{arith}
 use borrow.Author.Tests.{eq-eqb, ne-eqb}
 use borrow.Author.Needs.{needs}
-use Rattle.ops.specs.GivesLaws.{refuses, does}
-use Rattle.ops.specs.TestLaws.{is-occupied, is-done, none-needed}
-use Rattle.pool.specs.ScriptLaws.{Opened}
-use Rattle.ops.specs.WordLaws.{two}
+use Rattle.ops.specs.laws.GivesLaws.{refuses, does}
+use Rattle.ops.specs.laws.TestLaws.{is-occupied, is-done, none-needed}
+use Rattle.pool.specs.laws.ScriptLaws.{Opened}
+use Rattle.ops.specs.laws.WordLaws.{two}
 use Rattle.answers.specs.Answers.{OCCUPIED}
 use Rattle.ops.specs.Replies.{operation}
 use Rattle.pool.specs.Pool.{holder, Pool, frees}

@@ -5,11 +5,11 @@ use mathlib.Core.Path.{_≡_, refl, sym, _∙_}
 use native.Mathlib.Omega.{arith}
 use borrow.Author.Tests.{eq-eqb, ne-eqb, lt-ltb, le-ltb}
 use borrow.Author.Needs.{needs}
-use Rattle.pool.specs.ScriptLaws.{Opened, own-head}
+use Rattle.pool.specs.laws.ScriptLaws.{Opened, own-head}
 use Rattle.pool.specs.Operations.{decap}
-use Rattle.ops.specs.GivesLaws.{refuses, does, first-said}
-use Rattle.ops.specs.TestLaws.{is-null, is-occupied, is-shared, is-done, none-needed}
-use Rattle.ops.specs.WordLaws.{two}
+use Rattle.ops.specs.laws.GivesLaws.{refuses, does, first-said}
+use Rattle.ops.specs.laws.TestLaws.{is-null, is-occupied, is-shared, is-done, none-needed}
+use Rattle.ops.specs.laws.WordLaws.{two}
 use Rattle.answers.specs.Answers.{NULL, OCCUPIED, SHARED}
 use Rattle.ops.specs.Replies.{operation}
 use Rattle.pool.specs.Pool.{Pool, countOf, holder, frees}

@@ -5,11 +5,11 @@ use mathlib.Core.Logic.{_≢_}
 use native.Mathlib.Omega.{arith}
 use borrow.Author.Tests.{eq-eqb, ne-eqb}
 use borrow.Author.Needs.{needs}
-use Rattle.ops.specs.GivesLaws.{refuses, does, first-said}
-use Rattle.ops.specs.TestLaws.{is-null, is-done, none-needed}
-use Rattle.pool.specs.ScriptLaws.{Opened}
-use Rattle.ops.specs.WordLaws.{one}
-use Rattle.table.specs.ViewLaws.{itself}
+use Rattle.ops.specs.laws.GivesLaws.{refuses, does, first-said}
+use Rattle.ops.specs.laws.TestLaws.{is-null, is-done, none-needed}
+use Rattle.pool.specs.laws.ScriptLaws.{Opened}
+use Rattle.ops.specs.laws.WordLaws.{one}
+use Rattle.table.specs.laws.ViewLaws.{itself}
 use Rattle.answers.specs.Answers.{NULL}
 use Rattle.ops.specs.Replies.{operation}
 use Rattle.pool.specs.Pool.{holder, Pool, frees}

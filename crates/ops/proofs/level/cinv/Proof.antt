@@ -6,10 +6,10 @@ use Prim.Native.Nat.{ℕ, _≤_}
 use borrow.Author.Needs.{needs}
 use Rattle.answers.specs.Answers.{OCCUPIED, NO-ROOM}
 use Rattle.ops.specs.Replies.{operation}
-use Rattle.ops.specs.GivesLaws.{refuses, does}
-use Rattle.ops.specs.TestLaws.{is-occupied, is-full, is-done}
-use Rattle.pool.specs.ScriptLaws.{Opened}
-use Rattle.ops.specs.WordLaws.{two}
+use Rattle.ops.specs.laws.GivesLaws.{refuses, does}
+use Rattle.ops.specs.laws.TestLaws.{is-occupied, is-full, is-done}
+use Rattle.pool.specs.laws.ScriptLaws.{Opened}
+use Rattle.ops.specs.laws.WordLaws.{two}
 use Rattle.pool.specs.Pool.{Pool, holder, frees}
 use Rattle.pool.specs.Script.{CINV, effect}
 use Rattle.table.specs.View.{view}

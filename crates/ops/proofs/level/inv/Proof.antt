@@ -6,10 +6,10 @@ use Rattle.pool.specs.Pool.{Pool, frees}
 use borrow.Author.Needs.{needs}
 use Rattle.answers.specs.Answers.{SHARED}
 use Rattle.ops.specs.Replies.{operation}
-use Rattle.ops.specs.GivesLaws.{refuses, does}
-use Rattle.ops.specs.TestLaws.{is-shared, is-done, none-needed}
-use Rattle.pool.specs.ScriptLaws.{Opened}
-use Rattle.ops.specs.WordLaws.{one}
+use Rattle.ops.specs.laws.GivesLaws.{refuses, does}
+use Rattle.ops.specs.laws.TestLaws.{is-shared, is-done, none-needed}
+use Rattle.pool.specs.laws.ScriptLaws.{Opened}
+use Rattle.ops.specs.laws.WordLaws.{one}
 use Rattle.pool.specs.Script.{INV, effect}
 use Rattle.table.specs.View.{view}
 use Rattle.ops.proofs.level.inv.Statement.{statement}

@@ -2,10 +2,10 @@
 use mathlib.Core.Path.{refl, ap}
 use borrow.Author.Needs.{needs}
 use Rattle.ops.specs.Replies.{operation}
-use Rattle.ops.specs.GivesLaws.{does}
-use Rattle.ops.specs.TestLaws.{is-done, none-needed}
-use Rattle.ops.specs.WordLaws.{one}
-use Rattle.table.specs.ViewLaws.{itself}
+use Rattle.ops.specs.laws.GivesLaws.{does}
+use Rattle.ops.specs.laws.TestLaws.{is-done, none-needed}
+use Rattle.ops.specs.laws.WordLaws.{one}
+use Rattle.table.specs.laws.ViewLaws.{itself}
 use Rattle.pool.specs.Pool.{Pool, frees}
 use Rattle.pool.specs.Script.{LENGTH, Operation, effect}
 use Rattle.table.specs.View.{view}

@@ -3,7 +3,7 @@ use mathlib.Core.Path.{_∙_}
 use native.Mathlib.Omega.{arith}
 use lib.ListN.{length-set}
 use borrow.Author.Needs.{needs}
-use Rattle.reading.specs.AddLaws.{list-begins, list-steps, atom-begins, atom-ready, atom-steps, shut-ready, shut-steps}
+use Rattle.reading.specs.laws.AddLaws.{list-begins, list-steps, atom-begins, atom-ready, atom-steps, shut-ready, shut-steps}
 use Rattle.reading.proofs.build.add.Statement.{statement}
 use Rattle.reading.proofs.build.add.Tie as tie
 

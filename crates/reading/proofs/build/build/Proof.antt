@@ -8,7 +8,7 @@ use Rattle.scan.specs.Runs.{numeral}
 use Rattle.text.specs.Limits.{levels}
 use Rattle.reading.specs.Accepting.{Amid}
 use Rattle.reading.specs.Pass.{Pass}
-use Rattle.reading.specs.PassLaws.{begins, over, amid, adding, on}
+use Rattle.reading.specs.laws.PassLaws.{begins, over, amid, adding, on}
 use Rattle.reading.specs.declared.digits.Number.{Number}
 use Rattle.reading.proofs.Nexts.{here, numbered}
 use Rattle.reading.proofs.build.build.Statement.{statement}

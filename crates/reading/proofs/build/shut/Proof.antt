@@ -6,7 +6,7 @@ use borrow.Author.Needs.{needs}
 use Rattle.table.specs.View.{view, Table}
 use Rattle.reading.specs.Hooks.{stack}
 use Rattle.reading.specs.Underway.{Shutting}
-use Rattle.reading.specs.UnderwayLaws.{hooked, shutting-next, shutting-done}
+use Rattle.reading.specs.laws.UnderwayLaws.{hooked, shutting-next, shutting-done}
 use Rattle.reading.proofs.build.shut.Statement.{statement}
 use Rattle.reading.proofs.build.shut.Tie as tie
 

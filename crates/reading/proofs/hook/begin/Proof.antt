@@ -7,7 +7,7 @@ use Rattle.cells.specs.Range.{Spare}
 use Rattle.table.specs.View.{view}
 use Rattle.reading.specs.Hooks.{linkOf}
 use Rattle.reading.specs.Reading.{hang}
-use Rattle.reading.specs.HookLaws.{new-begun}
+use Rattle.reading.specs.laws.HookLaws.{new-begun}
 use Rattle.reading.proofs.hook.begin.Statement.{statement}
 use Rattle.reading.proofs.hook.begin.Tie as tie
 

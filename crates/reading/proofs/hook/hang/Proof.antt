@@ -2,10 +2,10 @@
 use mathlib.Core.Path.{ap, sym}
 use borrow.Author.Needs.{needs}
 use Rattle.table.specs.View.{view}
-use Rattle.table.specs.ViewLaws.{said}
+use Rattle.table.specs.laws.ViewLaws.{said}
 use Rattle.reading.specs.Build.{Link}
 use Rattle.reading.specs.Reading.{hang}
-use Rattle.reading.specs.HookLaws.{is-held, is-after, is-inside}
+use Rattle.reading.specs.laws.HookLaws.{is-held, is-after, is-inside}
 use Rattle.reading.proofs.hook.hang.Statement.{statement}
 use Rattle.reading.proofs.hook.hang.Tie as tie
 

@@ -4,7 +4,7 @@ use Prim.Native.Nat.{_≤_, _-_}
 use native.Mathlib.Omega.{arith}
 use borrow.Author.Needs.{needs}
 use lib.Seq.{paste, paste-zero}
-use Rattle.writing.specs.PutLaws.{copy-step, copy-length}
+use Rattle.writing.specs.laws.PutLaws.{copy-step, copy-length}
 use Rattle.writing.proofs.atoms.copy.Statement.{statement}
 use Rattle.writing.proofs.atoms.copy.Tie as tie
 

@@ -3,7 +3,7 @@ use Prim.Native.Nat.{_+_, _*_, _/_}
 use native.Mathlib.Omega.{arith}
 use lib.Count.{leading-le}
 use borrow.Author.Needs.{needs}
-use Rattle.writing.specs.NumeralLaws.{digits-by-bit, some-digits}
+use Rattle.writing.specs.laws.NumeralLaws.{digits-by-bit, some-digits}
 use Rattle.writing.proofs.atoms.count.Statement.{statement}
 use Rattle.writing.proofs.atoms.count.Tie as tie
 

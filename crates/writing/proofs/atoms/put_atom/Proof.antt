@@ -6,8 +6,8 @@ use native.Mathlib.Omega.{arith}
 use borrow.Author.Needs.{needs}
 use Rattle.text.specs.Limits.{digitsMost}
 use Rattle.writing.specs.Numeral.{numeral}
-use Rattle.writing.specs.NumeralLaws.{one-digit}
-use Rattle.writing.specs.PutLaws.{put-one, put-store}
+use Rattle.writing.specs.laws.NumeralLaws.{one-digit}
+use Rattle.writing.specs.laws.PutLaws.{put-one, put-store}
 use Rattle.writing.proofs.atoms.put_atom.Statement.{statement}
 use Rattle.writing.proofs.atoms.put_atom.Tie as tie
 

@@ -6,7 +6,7 @@ use Prim.Native.Nat.{_+_, _%_, _≤_, _-_}
 use native.Mathlib.Omega.{arith}
 use borrow.Author.Needs.{needs}
 use Rattle.writing.specs.Numeral.{lastDigits}
-use Rattle.writing.specs.NumeralLaws.{last-step, none-left, worked-out}
+use Rattle.writing.specs.laws.NumeralLaws.{last-step, none-left, worked-out}
 use Rattle.text.specs.Limits.{digitsMost}
 use Rattle.writing.proofs.atoms.work_out.Statement.{statement}
 use Rattle.writing.proofs.atoms.work_out.Tie as tie

@@ -1,8 +1,8 @@
 -- `writing::put::part` meets its contract.
 use native.Mathlib.Omega.{arith}
 use borrow.Author.Needs.{needs}
-use Rattle.writing.specs.PutLaws.{put-comma, no-comma}
-use Rattle.writing.specs.StepLaws.{one-comma}
+use Rattle.writing.specs.laws.PutLaws.{put-comma, no-comma}
+use Rattle.writing.specs.laws.StepLaws.{one-comma}
 use Rattle.writing.proofs.put.part.Statement.{statement}
 use Rattle.writing.proofs.put.part.Tie as tie
 

@@ -7,8 +7,8 @@ use lib.ListN.{set, length-set}
 use Rattle.table.specs.View.{view}
 use Rattle.writing.specs.Measures.{textAt}
 use Rattle.writing.specs.Putting.{Putting}
-use Rattle.writing.specs.PuttingLaws.{some-text, put-begins, shallow, roomy, put-on, put-ends}
-use Rattle.writing.specs.WalkingLaws.{ready}
+use Rattle.writing.specs.laws.PuttingLaws.{some-text, put-begins, shallow, roomy, put-on, put-ends}
+use Rattle.writing.specs.laws.WalkingLaws.{ready}
 use Rattle.writing.proofs.put.put.Statement.{statement}
 use Rattle.writing.proofs.put.put.Tie as tie
 

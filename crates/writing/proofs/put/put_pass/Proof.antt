@@ -7,8 +7,8 @@ use borrow.Author.Needs.{needs}
 use Rattle.pool.specs.Pool.{elemOf}
 use Rattle.table.specs.View.{view}
 use Rattle.writing.specs.Numeral.{numeral}
-use Rattle.writing.specs.PutLaws.{put-then, put-value}
-use Rattle.writing.specs.StepLaws.{pass-size}
+use Rattle.writing.specs.laws.PutLaws.{put-then, put-value}
+use Rattle.writing.specs.laws.StepLaws.{pass-size}
 use Rattle.writing.proofs.put.put_pass.Statement.{statement}
 use Rattle.writing.proofs.put.put_pass.Tie as tie
 

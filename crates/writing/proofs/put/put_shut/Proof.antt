@@ -4,8 +4,8 @@ use mathlib.Core.Path.{_∙_}
 use mathlib.Core.List.{[], _∷_}
 use lib.ListN.{length-set}
 use borrow.Author.Needs.{needs}
-use Rattle.writing.specs.PutLaws.{put-one, put-then}
-use Rattle.writing.specs.StepLaws.{shut-size}
+use Rattle.writing.specs.laws.PutLaws.{put-one, put-then}
+use Rattle.writing.specs.laws.StepLaws.{shut-size}
 use Rattle.writing.proofs.put.put_shut.Statement.{statement}
 use Rattle.writing.proofs.put.put_shut.Tie as tie
 

@@ -6,7 +6,7 @@ use borrow.Author.Needs.{needs}
 use Rattle.pool.specs.Pool.{kindOf}
 use Rattle.table.specs.View.{view}
 use Rattle.writing.specs.Steps.{shuts, passes, opens}
-use Rattle.writing.specs.PutLaws.{put-one}
+use Rattle.writing.specs.laws.PutLaws.{put-one}
 use Rattle.writing.proofs.put.put_step.Statement.{statement}
 use Rattle.writing.proofs.put.put_step.Tie as tie
 

@@ -1,7 +1,7 @@
 -- `writing::walk::commas` meets its contract.
 use native.Mathlib.Omega.{arith}
 use borrow.Author.Needs.{needs}
-use Rattle.writing.specs.StepLaws.{one-comma}
+use Rattle.writing.specs.laws.StepLaws.{one-comma}
 use Rattle.writing.proofs.walk.commas.Statement.{statement}
 use Rattle.writing.proofs.walk.commas.Tie as tie
 

@@ -10,9 +10,9 @@ use Rattle.table.specs.View.{view}
 use Rattle.text.specs.Limits.{levels}
 use Rattle.writing.specs.Measures.{textAt}
 use Rattle.writing.specs.Walking.{Walking, Turned}
-use Rattle.writing.specs.StepLaws.{full, roomy}
-use Rattle.writing.specs.WalkingLaws.{begins, turned, goes-on, overflows, too-deep, at-cell, ready}
-use Rattle.writing.specs.MeasureLaws.{no-room, refuses, sizes}
+use Rattle.writing.specs.laws.StepLaws.{full, roomy}
+use Rattle.writing.specs.laws.WalkingLaws.{begins, turned, goes-on, overflows, too-deep, at-cell, ready}
+use Rattle.writing.specs.laws.MeasureLaws.{no-room, refuses, sizes}
 use Rattle.writing.proofs.walk.measure.Statement.{statement}
 use Rattle.writing.proofs.walk.measure.Tie as tie
 

@@ -1,6 +1,6 @@
 -- `writing::walk::open` meets its contract.
 use borrow.Author.Needs.{needs}
-use Rattle.writing.specs.StepLaws.{opened-at}
+use Rattle.writing.specs.laws.StepLaws.{opened-at}
 use Rattle.writing.proofs.walk.open.Statement.{statement}
 use Rattle.writing.proofs.walk.open.Tie as tie
 

@@ -1,6 +1,6 @@
 -- `writing::walk::pass` meets its contract.
 use borrow.Author.Needs.{needs}
-use Rattle.writing.specs.StepLaws.{passed}
+use Rattle.writing.specs.laws.StepLaws.{passed}
 use Rattle.writing.proofs.walk.pass.Statement.{statement}
 use Rattle.writing.proofs.walk.pass.Tie as tie
 

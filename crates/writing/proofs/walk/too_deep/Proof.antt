@@ -1,6 +1,6 @@
 -- `writing::walk::too_deep` meets its contract.
 use borrow.Author.Needs.{needs}
-use Rattle.writing.specs.StepLaws.{not-full, shuts-there, opens-there}
+use Rattle.writing.specs.laws.StepLaws.{not-full, shuts-there, opens-there}
 use Rattle.writing.proofs.walk.too_deep.Statement.{statement}
 use Rattle.writing.proofs.walk.too_deep.Tie as tie
 

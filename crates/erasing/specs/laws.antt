@@ -1,0 +1,5 @@
+pub mod StepLaws
+pub mod LaterLaws
+pub mod Counts
+pub mod Ends
+pub mod AdvanceLaws

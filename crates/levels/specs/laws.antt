@@ -1,0 +1,5 @@
+pub mod TurningLaws
+pub mod CopyingLaws
+pub mod Beside
+pub mod Ending
+pub mod Joining

@@ -1,0 +1,5 @@
+pub mod WordLaws
+pub mod TestLaws
+pub mod GivesLaws
+pub mod ReplyLaws
+pub mod Freed

@@ -1,0 +1,217 @@
+-- Our engine keeps demand 1: each chain of tests is the chain of rows, and a script is its operations one by one.
+use mathlib.Core.Path.{_≡_, refl, sym, ap, _∙_, subst}
+use mathlib.Core.Logic.{_≢_, _⊎_, inl, inr}
+use mathlib.Core.Bool.{Bool, true, false, cond, not}
+use mathlib.Core.List.{List, [], _∷_, _++_}
+use Prim.Native.Nat.{ℕ, suc, _*_, _<_}
+use native.Mathlib.Omega.{arith}
+use lib.Dec.{eqb, ltb}
+use lib.ListN.{length, drop}
+use borrow.Author.Tests.{eqb-true, eqb-false, ne-eqb, eq-eqb}
+use Rattle.answers.specs.Answers.{DONE, TABLE-SIZE, WORK-SPACE, SCRIPT, RESULTS, UNSOUND, HOLDER, OCCUPIED, NO-ROOM, TEXT-SIZE, END, DEEP, OUTPUT}
+use Rattle.lists.specs.Lst.{Lst, extent}
+use Rattle.pool.specs.Pool.{Pool, holder, frees, Sound}
+use Rattle.pool.specs.laws.PoolLaws.{ListAt-unique}
+use Rattle.pool.specs.Operations.{listOf}
+use Rattle.pool.specs.laws.SoundLaws.{denoted}
+use Rattle.pool.specs.Script.{Operation, Run, refusal, effect, goesOn, stops, performed}
+use Rattle.pool.specs.laws.ByCode.{either-way}
+use Rattle.pool.specs.laws.Lengths.{effect-alike}
+use Rattle.pool.specs.laws.ScriptLaws.{allowed, effect-sound}
+use Rattle.text.specs.Marks.{listIn}
+use Rattle.text.specs.Text.{Answer, verdict, scanned}
+use Rattle.text.specs.ListText.{textOf}
+use Rattle.text.specs.Writing.{usable}
+use Rattle.setup.specs.SetUp.{Given}
+use Rattle.calls.specs.Entry.{badTable, badWork, noHolder, shown, unsound, stored, used, over}
+use Rattle.calls.specs.Run.{Ran, operations, badScript, badResults, notRun, ranTo, ranIn}
+use Rattle.calls.specs.Read.{Read as Reading, badText, notRead, readingIn}
+use Rattle.calls.specs.Write.{Write, notWritten, writeList, writingIn}
+use Rattle.table.specs.Limits.{holdersMost}
+use Rattle.promises.specs.Engine.{ours}
+use Rattle.promises.specs.Rows.{First, Answers}
+use Rattle.promises.specs.Grounds.{setUpRows, runRows, operationRows}
+use Rattle.promises.specs.TextGrounds.{readRows, faultRows, writeRows, Has, TooDeep}
+use Rattle.promises.specs.Demand1.{wordsOf, alone, Stops, end, refused, done, Demand1, SetUpRefusals, RunRefusals, ReadRefusals, WriteRefusals, ScriptsStop, RefusedRun}
+use Rattle.promises.specs.laws.Tells.{tells-eq, tells-lt, tells-not, first, rows-before}
+use Rattle.promises.specs.laws.TestsTell.{tells-size, tells-table, tells-work, tells-script, tells-results, tells-unsound, tells-holder, tells-text}
+use Rattle.promises.specs.laws.OperationRows.{operation-answers}
+use Rattle.promises.specs.laws.TextRows.{scan-answers, verdict-is, check-answers, check-refused}
+use Rattle.promises.specs.laws.WriteRows.{judged-answers}
+use Rattle.promises.specs.laws.Tables.{Good, good, stores, stored-good, stored-same, good-table, good-sound}
+use Rattle.promises.specs.laws.RunLaws.{Passed, passed-good, passes, passed-none, runs, run-ways}
+use Rattle.promises.specs.laws.ScriptDoes.{one-done}
+use Rattle.promises.specs.laws.ReadLaws.{filledIn, read-ways}
+use Rattle.promises.specs.laws.WriteLaws.{listOf-is, write-ways, judgement}
+use Rattle.promises.specs.laws.Invariant.{set-up-ways}
+use Rattle.promises.specs.kept.WorkDoes.{run-work, read-work, write-work}
+use Rattle.table.specs.declared.Form.{Form}
+
+set-up-rows : (form : Form) → SetUpRefusals form (ours form)
+set-up-rows form ts n = set-up-ways form ts n (λ (g : Given). Answers (setUpRows form ts n) (g .answer))
+    (λ e. inr (tells-size form holdersMost n (length ts) .1 (ap not e), refl))
+    (λ e. inl (tells-size form holdersMost n (length ts) .0 (ap not e), refl))
+
+abbrev of-run : Ran → ℕ
+of-run r = r .answer
+
+run-rows : (form : Form) → RunRefusals form (ours form)
+unfolding ranIn
+run-rows form ts ws ss rs =
+    first of-run (later 1) (badTable form ts) (notRun TABLE-SIZE ts ws rs) _ (tells-table form ts) refl (λ e.
+    first of-run (later 2) (badWork form ts ws) (notRun WORK-SPACE ts ws rs) _ (tells-work form ts ws e) refl (λ _.
+    first of-run (later 3) (badScript ss) (notRun SCRIPT ts ws rs) _ (tells-script ss) refl (λ _.
+    first of-run (later 4) (badResults ss rs) (notRun RESULTS ts ws rs) _ (tells-results ss rs) refl (λ _.
+    first of-run (later 5) (unsound form ts) (notRun UNSOUND ts (used form ts ws) rs) _ (tells-unsound form ts) refl (λ _. tt)))))
+  where
+    later : ℕ → ℕ → Type 0
+    later k = First (drop k (runRows form ts ws ss rs)) (λ n. Unit {0})
+
+abbrev of-read : Reading → ℕ
+of-read r = r .answer
+
+read-rows : (form : Form) → ReadRefusals form (ours form)
+unfolding readingIn
+read-rows form ts ws h xs =
+    first of-read (later 1) (badTable form ts) (notRead TABLE-SIZE ts ws) _ (tells-table form ts) refl (λ e.
+    first of-read (later 2) (badWork form ts ws) (notRead WORK-SPACE ts ws) _ (tells-work form ts ws e) refl (λ _.
+    first of-read (later 3) (noHolder form ts h) (notRead HOLDER ts ws) _ (tells-holder form ts h) refl (λ _.
+    first of-read (later 4) (badText xs) (notRead TEXT-SIZE ts ws) _ (tells-text xs) refl (λ s.
+    first of-read (later 5) (eqb (length xs) 0) (notRead END ts ws) _ (tells-eq (length xs) 0) refl (λ z.
+    first of-read (later 6) (unsound form ts) (notRead UNSOUND ts (used form ts ws)) _ (tells-unsound form ts) refl (λ _.
+    first of-read (later 7) (not (eqb (holder (shown form ts) h) 0)) (notRead OCCUPIED ts (used form ts ws)) _ (tells-not (eqb (holder (shown form ts) h) 0) (tells-eq (holder (shown form ts) h) 0)) refl (λ _.
+    text (verdict-is xs ∙ rw (s, z)))))))))
+  where
+    later : ℕ → ℕ → Type 0
+    later k = Answers (drop k (readRows form ts ws h xs))
+
+    room : Reading
+    room = cond (ltb (frees (shown form ts .cells)) (extent (listIn xs))) (notRead NO-ROOM ts (used form ts ws)) (filledIn form ts ws h xs)
+
+    judge : Reading
+    judge = cond (not (eqb (verdict xs .no) DONE)) (notRead (verdict xs .no) ts (used form ts ws)) room
+
+    text : verdict xs ≡ scanned xs → later 7 (judge .answer)
+    text e = rows-before (faultRows xs) (drop 10 (readRows form ts ws h xs)) (λ m. m ≡ DONE) (verdict xs .no) (judge .answer)
+        ((λ z. omega arith), ((λ z. omega arith), ((λ z. omega arith), tt)))
+        (subst (λ (r : Answer). Answers (faultRows xs) (r .no)) (sym e) (scan-answers xs))
+        (λ n. rw (ne-eqb (verdict xs .no) DONE n))
+        (λ z. subst (λ (b : Bool). later 10 (cond (not b) (notRead (verdict xs .no) ts (used form ts ws)) room .answer)) (sym (eq-eqb (verdict xs .no) DONE z))
+        (first of-read (λ m. m ≡ DONE) (ltb (frees (shown form ts .cells)) (extent (listIn xs))) (notRead NO-ROOM ts (used form ts ws)) (filledIn form ts ws h xs) (tells-lt (frees (shown form ts .cells)) (extent (listIn xs))) refl (λ _. refl)))
+
+abbrev of-write : Write → ℕ
+of-write r = r .answer
+
+write-rows : (form : Form) → WriteRefusals form (ours form)
+unfolding writingIn
+write-rows form ts ws h out =
+    first of-write (later 1) (badTable form ts) (notWritten TABLE-SIZE ws out) _ (tells-table form ts) refl (λ e.
+    first of-write (later 2) (badWork form ts ws) (notWritten WORK-SPACE ws out) _ (tells-work form ts ws e) refl (λ _.
+    first of-write (later 3) (noHolder form ts h) (notWritten HOLDER ws out) _ (tells-holder form ts h) refl (λ _.
+    first of-write (later 4) (unsound form ts) (notWritten UNSOUND (used form ts ws) out) _ (tells-unsound form ts) refl (λ u. text (good form ts e u .sound)))))
+  where
+    later : ℕ → ℕ → Type 0
+    later k = Answers (drop k (writeRows form ts ws h out))
+
+    -- the answer is the judgement, whatever it is
+    answered : (n : ℕ) (y z : Write) → y .answer ≡ DONE → z .answer ≡ n → cond (eqb n DONE) y z .answer ≡ n
+    answered n y z ey ez = go (eqb n DONE) refl
+      where
+        go : (b : Bool) → eqb n DONE ≡ b → cond b y z .answer ≡ n
+        go true e = ey ∙ sym (eqb-true n DONE e)
+        go false e = ez
+
+    text : Sound (shown form ts) → later 4 (writeList (listOf (shown form ts) h) (used form ts ws) out .answer)
+    text s =
+        let (l, w) = denoted (shown form ts) s h in
+        let e : listOf (shown form ts) h ≡ l = listOf-is (shown form ts) h l s w in
+        subst (λ (k : Lst). later 4 (writeList k (used form ts ws) out .answer)) (sym e)
+        (subst (later 4) (sym (answered (judgement l out) _ (notWritten (judgement l out) (used form ts ws) out) refl refl)) (rows l w (judged-answers (usable (length out)) (textOf l))))
+      where
+        rows : (l : Lst) → Has form ts h l
+            → (TooDeep (usable (length out)) (textOf l) × (judgement l out ≡ DEEP)) ⊎ ((TooDeep (usable (length out)) (textOf l) → ⊥) × (((usable (length out) < length (textOf l)) × (judgement l out ≡ OUTPUT)) ⊎ ((usable (length out) < length (textOf l) → ⊥) × (judgement l out ≡ DONE))))
+            → later 4 (judgement l out)
+        rows l w (inl (d, e)) = inl ((l, w, d), e)
+        rows l w (inr (d, r)) = inr ((λ k. d (same (λ (m : Lst). TooDeep (usable (length out)) (textOf m)) k)), rest r)
+          where
+            same : (P : Lst → Type 0) → (m : Lst) × Has form ts h m × P m → P l
+            same P (m, u, k) = subst P (ListAt-unique (shown form ts .cells) (holder (shown form ts) h) m l u w) k
+
+            rest : ((usable (length out) < length (textOf l)) × (judgement l out ≡ OUTPUT)) ⊎ ((usable (length out) < length (textOf l) → ⊥) × (judgement l out ≡ DONE)) → later 5 (judgement l out)
+            rest (inl (k, e)) = inl ((l, w, k), e)
+            rest (inr (k, e)) = inr ((λ n. k (same (λ (m : Lst). usable (length out) < length (textOf m)) n)), e)
+
+-- a script
+
+abbrev zeros : List ℕ
+zeros = 0 ∷ 0 ∷ []
+
+pub one-passes : (form : Form) → (ts ws : List ℕ) (o : Operation) → Good form ts → badWork form ts ws ≡ false → Passed form ts ws (wordsOf o) zeros
+one-passes form ts ws o g w = record { table = good-table form ts g; work = w; script = refl; results = refl; sound = good-sound form ts g }
+
+one-done-run : (form : Form) → (ts ws : List ℕ) (o : Operation) → Good form ts → badWork form ts ws ≡ false → refusal (shown form ts) o ≡ DONE
+    → alone (ours form) ws ts o ≡ ranTo form (goesOn (effect (shown form ts) o) (stops (effect (shown form ts) o .pool) DONE)) ts ws zeros
+unfolding operations
+one-done-run form ts ws o g w e = runs form ts ws (wordsOf o) zeros (one-passes form ts ws o g w) ∙ ap (λ (r : Run). ranTo form r ts ws zeros) (one-done (shown form ts) o e)
+
+stops-from : (form : Form) → (ws : List ℕ) (os : List Operation) (ts : List ℕ) → Good form ts → badWork form ts ws ≡ false → let r = performed (shown form ts) os in Stops form (ours form) ws ts os (r .answer) (r .done) (stored form ts (r .pool)) (r .results)
+unfolding performed
+stops-from form ws [] ts g w = subst (λ (us : List ℕ). Stops form (ours form) ws ts [] DONE 0 us []) (sym (stored-same form ts (g .table))) end
+stops-from form ws (o ∷ os) ts g w = either-way (λ (r : Run). Stops form (ours form) ws ts (o ∷ os) (r .answer) (r .done) (stored form ts (r .pool)) (r .results)) (eqb (refusal p o) DONE) (goesOn (effect p o) (performed q os)) (stops p (refusal p o))
+    (λ e. on (eqb-true (refusal p o) DONE e) (stops-from form ws os (stored form ts q)))
+    (λ e. subst (λ (us : List ℕ). Stops form (ours form) ws ts (o ∷ os) (refusal p o) 0 us []) (sym (stored-same form ts (g .table))) (refused rows (eqb-false (refusal p o) DONE e)))
+  where
+    p : Pool
+    p = shown form ts
+
+    q : Pool
+    q = effect (shown form ts) o .pool
+
+    rows : Answers (operationRows (shown form ts) o) (refusal (shown form ts) o)
+    rows = operation-answers (shown form ts) o (g .sound)
+
+    on : refusal (shown form ts) o ≡ DONE → (Good form (stored form ts q) → badWork form (stored form ts q) ws ≡ false → let r = performed (shown form (stored form ts q)) os in Stops form (ours form) ws (stored form ts q) os (r .answer) (r .done) (stored form (stored form ts q) (r .pool)) (r .results))
+        → let r = performed q os in Stops form (ours form) ws ts (o ∷ os) (r .answer) (suc (r .done)) (stored form ts (r .pool)) (effect (shown form ts) o .kind ∷ effect (shown form ts) o .value ∷ r .results)
+    on e ih =
+        let st = stores form ts q (g .table) (effect-alike (shown form ts) o) (effect-sound (shown form ts) o (g .sound) (allowed (shown form ts) o e)) in
+        let r = performed q os in
+        let us = stored form ts q in
+        let one = one-done-run form ts ws o g w e in
+        let k0 = ih (stored-good form ts q st (effect-sound (shown form ts) o (g .sound) (allowed (shown form ts) o e))) (ap (λ (n : ℕ). ltb (length ws) (2 * n)) (st .cells) ∙ w) in
+        let k1 : Stops form (ours form) ws us os (r .answer) (r .done) (stored form us (r .pool)) (r .results)
+        = subst (λ (z : Pool). let y = performed z os in Stops form (ours form) ws us os (y .answer) (y .done) (stored form us (y .pool)) (y .results)) (st .shows) k0 in
+        let k2 : Stops form (ours form) ws us os (r .answer) (r .done) (stored form ts (r .pool)) (r .results)
+        = subst (λ (vs : List ℕ). Stops form (ours form) ws us os (r .answer) (r .done) vs (r .results)) (st .again (r .pool)) k1 in
+        let k3 : Stops form (ours form) ws (alone (ours form) ws ts o .table) os (r .answer) (r .done) (stored form ts (r .pool)) (r .results)
+        = subst (λ (vs : List ℕ). Stops form (ours form) ws vs os (r .answer) (r .done) (stored form ts (r .pool)) (r .results)) (sym (ap (λ (y : Ran). y .table) one)) k2 in
+        subst (λ (qs : List ℕ). Stops form (ours form) ws ts (o ∷ os) (r .answer) (suc (r .done)) (stored form ts (r .pool)) qs) (ap (λ (y : Ran). y .results ++ r .results) one)
+        (done (subst (Answers (operationRows (shown form ts) o)) e rows) k3)
+
+script-stops : (form : Form) → ScriptsStop form (ours form)
+script-stops form ts ws ss rs n =
+    let h = passes form ts ws ss rs n in
+    subst (λ (r : Ran). (qs : List ℕ) × Stops form (ours form) ws ts (operations ss) (r .answer) (r .count) (r .table) qs × (r .results ≡ over qs rs)) (sym (runs form ts ws ss rs h))
+    (performed (shown form ts) (operations ss) .results, stops-from form ws (operations ss) ts (passed-good form h) (h .work), refl)
+
+-- refused calls
+
+run-refused : (form : Form) → RefusedRun form (ours form)
+run-refused form ts ws ss rs m = run-ways form ts ws ss rs (λ (r : Ran). (r .table ≡ ts) × (r .results ≡ rs) × (r .count ≡ 0)) (λ n us _. (refl, refl, refl)) (λ h. absurd (m (passed-none form ts ws ss rs h)))
+
+pub demand1 : (form : Form) → Demand1 form (ours form)
+demand1 form = record {
+  set-up-refusals = set-up-rows form;
+  run-refusals = run-rows form;
+  read-refusals = read-rows form;
+  write-refusals = write-rows form;
+  check-refusals = check-answers;
+  refused-set-up = λ ts n. set-up-ways form ts n (λ (g : Given). g .answer ≢ DONE → g .table ≡ ts) (λ e m. absurd (m refl)) (λ e m. refl);
+  refused-run = run-refused form;
+  refused-read = λ ts ws h xs. read-ways form ts ws h xs (λ (r : Reading). r .answer ≢ DONE → (r .table ≡ ts) × (r .count ≡ 0)) (λ n us m _. (refl, refl)) (λ t m. absurd (m refl));
+  refused-write = λ ts ws h out. write-ways form ts ws h out (λ (r : Write). r .answer ≢ DONE → (r .output ≡ out) × (r .count ≡ 0)) (λ n us m _. (refl, refl)) (λ o l e j m. absurd (m refl));
+  refused-check = check-refused;
+  run-work = run-work form;
+  read-work = read-work form;
+  write-work = write-work form;
+  scripts-stop = script-stops form;
+}

@@ -1,0 +1,208 @@
+-- Our engine keeps demand 2: operations and scripts follow the machine, reading and writing follow the text form and undo each other.
+use mathlib.Core.Path.{_≡_, refl, sym, ap, _∙_, subst}
+use mathlib.Core.Bool.{Bool, true, false, cond}
+use mathlib.Core.List.{List, []}
+use Prim.Native.Nat.{ℕ, _*_, _≤_, _<_}
+use native.Mathlib.Omega.{arith}
+use lib.Dec.{eqb, leb}
+use lib.ListN.{length, take, drop}
+use lib.Seq.{take-append-seam, drop-length}
+use package.borrow.Author.Tests.{le-ltb, lt-leb, eq-eqb, ne-eqb}
+use Rattle.answers.specs.Answers.{DONE, TEXT-SIZE, END}
+use Rattle.lists.specs.Lst.{Lst, extent}
+use Rattle.pool.specs.Pool.{Pool, holder, ListAt, frees}
+use Rattle.pool.specs.Operations.{read}
+use Rattle.pool.specs.Script.{performed}
+use Rattle.pool.specs.laws.ScriptLaws.{allowed}
+use Rattle.table.specs.Limits.{holdersTold}
+use Rattle.table.specs.Sizes.{cellsOf}
+use Rattle.text.specs.laws.Accepted.{accepted}
+use Rattle.text.specs.ListText.{textOf, written}
+use Rattle.text.specs.Marks.{listIn}
+use Rattle.text.specs.Text.{Answer, done, refusal, scanned, verdict}
+use Rattle.text.specs.Writing.{usable}
+use Rattle.text.specs.laws.WritingLaws.{writes, written-read, read-written}
+use Rattle.calls.specs.Entry.{badTable, badWork, noHolder, shown, unsound, stored, used, over}
+use Rattle.calls.specs.Run.{Ran, operations, ranIn}
+use Rattle.calls.specs.Read.{Read as Reading, badText, readingIn}
+use Rattle.calls.specs.Write.{Write, writeList, writingIn}
+use Rattle.promises.specs.Engine.{ours}
+use Rattle.promises.specs.Grounds.{cellsTold}
+use Rattle.promises.specs.TextGrounds.{Has, TakesRecords}
+use Rattle.promises.specs.Machine.{Lists, assign, turn, turnAll, Says}
+use Rattle.promises.specs.Demand1.{wordsOf}
+use Rattle.promises.specs.Demand2.{Holds, filled, plain, Records, Ready, Demand2, OperationsGive, OthersStay, ScriptsGive, ReadingGives, CheckingGives, RestGives, WritingGives, WrittenReadsBack, ReadWritesBack}
+use Rattle.promises.specs.laws.TestsTell.{shown-holders, tells-table, tells-unsound, cells-told}
+use Rattle.promises.specs.laws.TextRows.{verdict-is, check-takes}
+use Rattle.promises.specs.laws.OperationLaws.{HoldsIn, operation-does, assigned}
+use Rattle.promises.specs.laws.Tables.{Good, good, stored-good, good-table, good-sound, fails}
+use Rattle.promises.specs.laws.RunLaws.{passed-good, run-ways}
+use Rattle.promises.specs.laws.ScriptDoes.{script-does, turn-other}
+use Rattle.promises.specs.laws.ReadLaws.{Taken, filledIn, read-ways, takes, read-pool, taken-verdict}
+use Rattle.promises.specs.laws.WriteLaws.{Opened, opened-good, opens, listOf-is, judgement, write-ways}
+use Rattle.promises.specs.laws.OneOperation.{one-accepted, effect-stored}
+use Rattle.promises.specs.laws.Invariant.{ran-stored, read-stored, read-alike}
+use Rattle.promises.specs.kept.CellsDo.{operations-use, reading-uses, borrow-shares, prefix-takes, decap-frees}
+use Rattle.promises.specs.kept.CellsStay.{live-cells-stay}
+use Rattle.promises.specs.kept.SetUpDoes.{set-up-gives}
+use Rattle.promises.specs.laws.TextEnds.{records, plain-records}
+use Rattle.promises.specs.laws.Atoms.{word-atoms}
+use Rattle.table.specs.declared.Form.{Form}
+
+-- operations and scripts
+
+operation-gives : (form : Form) → OperationsGive form (ours form)
+operation-gives form ts ws rs o m k e =
+    let a = one-accepted form ts ws rs o e in
+    let d = operation-does (shown form ts) o (a .good .sound) (allowed (shown form ts) o (a .allows)) in
+    let (n, w) = d .words m k in (
+      subst (λ (us : List ℕ). Holds form us (turn m o)) (sym (a .table)) (subst (λ (q : Pool). HoldsIn q (turn m o)) (sym (effect-stored form ts o (a .good) (a .allows) .shows)) (d .lists m k)),
+      (n, a .results ∙ ap (λ (qs : List ℕ). over qs rs) w),
+    )
+
+others : (form : Form) → OthersStay form (ours form)
+others form ts ws rs o m k e i na nb = subst (Has form (ranIn form ts ws (wordsOf o) rs .table) i) (turn-other m o i na nb) (operation-gives form ts ws rs o m k e .0 i)
+
+script-gives : (form : Form) → ScriptsGive form (ours form)
+unfolding turnAll Says
+script-gives form ts ws ss rs m k =
+    run-ways form ts ws ss rs (λ (r : Ran). let os = take (r .count) (operations ss) in Holds form (r .table) (turnAll m os) × ((qs : List ℕ) × Says m os qs × (r .results ≡ over qs rs)))
+    (λ n us _. (k, ([], refl, refl)))
+    (λ h.
+    let d = script-does (operations ss) (shown form ts) m (passed-good form h .sound) k in
+    let r = performed (shown form ts) (operations ss) in
+    (subst (λ (q : Pool). HoldsIn q (turnAll m (take (r .done) (operations ss)))) (sym (ran-stored form h .shows)) (d .lists), (r .results, d .words, refl)))
+
+-- reading and writing
+
+read-holds : (form : Form) → (ts ws : List ℕ) (h : ℕ) (xs : List ℕ) (m : Lists) → Holds form ts m → Taken form ts ws h xs → Holds form (filledIn form ts ws h xs .table) (assign m h (listIn xs))
+read-holds form ts ws h xs m k t =
+    let d = read-pool form ts ws h xs t in
+    subst (λ (q : Pool). HoldsIn q (assign m h (listIn xs))) (sym (read-stored form t .shows))
+    (assigned (read (shown form ts) h (listIn xs)) m h (listIn xs) (d .gets) (λ i n. d .others i (m i) n (k i)))
+
+-- the list of a text that is taken
+text-list : (xs : List ℕ) → verdict xs .no ≡ DONE → (t : List ℕ) × Records xs (verdict xs .taken) t × (textOf (listIn xs) ≡ plain t)
+text-list xs e =
+    let m = verdict xs .taken in
+    let right = taken-verdict xs e in
+    let (t, r) = records xs m right in
+    (t, r, accepted xs m right .1 ∙ plain-records xs m t r)
+
+reading : (form : Form) → ReadingGives form (ours form)
+reading form ts ws h xs m k =
+    read-ways form ts ws h xs (λ (r : Reading). r .answer ≡ DONE → (l : Lst) × (t : List ℕ) × Records xs (r .count) t × (textOf l ≡ plain t) × Holds form (r .table) (assign m h l)) (λ n us d e. absurd (d e))
+    (λ t e. let (u, r, q) = text-list xs (t .right) in (listIn xs, u, r, q, read-holds form ts ws h xs m k t))
+
+checking : (form : Form) → CheckingGives (ours form)
+checking form xs e = let (t, r, q) = text-list xs e in (listIn xs, t, r, q)
+
+after-list : (form : Form) → RestGives (ours form)
+after-list form xs = ((λ e. ap begins (eq-eqb (verdict xs .no) 0 e)), (λ n. ap begins (ne-eqb (verdict xs .no) 0 n) ∙ drop-length xs))
+  where
+    begins : Bool → List ℕ
+    begins b = drop (cond b (verdict xs .taken) (length xs)) xs
+
+abbrev writing : (form : Form) → List ℕ → List ℕ → Lst → List ℕ → Write
+writing form ts ws l out = record { answer = DONE; count = length (written l); work = used form ts ws; output = over (written l) out }
+
+writes-list : (form : Form) → (ts ws : List ℕ) (h : ℕ) (out : List ℕ) (l : Lst) → Opened form ts ws h → Has form ts h l → judgement l out ≡ DONE → writingIn form ts ws h out ≡ writing form ts ws l out
+writes-list form ts ws h out l o w j =
+    opens form ts ws h out o ∙ ap (λ (k : Lst). writeList k (used form ts ws) out) (listOf-is (shown form ts) h l (opened-good form o .sound) w) ∙ rw (eq-eqb (judgement l out) DONE j)
+
+written-out : (form : Form) → WritingGives form (ours form)
+written-out form ts ws h out l w =
+    write-ways form ts ws h out (λ (r : Write). r .answer ≡ DONE → (r .output ≡ over (filled (textOf l)) out) × (r .count ≡ length (filled (textOf l)))) (λ n us d e. absurd (d e))
+    (λ o k e j _. let q : k ≡ l = sym e ∙ listOf-is (shown form ts) h l (opened-good form o .sound) w in (ap (λ (z : Lst). over (written z) out) q, ap (λ (z : Lst). length (written z)) q))
+
+-- a table lent with work space enough passes the first tests
+ready-good : (form : Form) → {ts ws : List ℕ} → Ready form ts ws → Good form ts
+ready-good form {ts} r = good form ts (fails (badTable form ts) (tells-table form ts) (r .table)) (fails (unsound form ts) (tells-unsound form ts) (λ u. u (r .sound)))
+
+ready-work : (form : Form) → (ts ws : List ℕ) → Good form ts → 2 * cellsTold ts ≤ length ws → badWork form ts ws ≡ false
+ready-work form ts ws g l = let e = cells-told form ts (good-table form ts g) in le-ltb (length ws) (2 * cellsOf form ts) (omega arith)
+
+-- a text that is taken passes the tests of its size
+right-size : (xs : List ℕ) (m : ℕ) → verdict xs ≡ done m → (badText xs ≡ false) × (eqb (length xs) 0 ≡ false)
+right-size xs m e = go (badText xs) (eqb (length xs) 0) refl refl (sym (verdict-is xs) ∙ e)
+  where
+    go : (a b : Bool) → badText xs ≡ a → eqb (length xs) 0 ≡ b → cond a (refusal TEXT-SIZE) (cond b (refusal END) (scanned xs)) ≡ done m → (badText xs ≡ false) × (eqb (length xs) 0 ≡ false)
+    go true b p q z = let y : TEXT-SIZE ≡ DONE = ap (λ (r : Answer). r .no) z in absurd (omega arith)
+    go false true p q z = let y : END ≡ DONE = ap (λ (r : Answer). r .no) z in absurd (omega arith)
+    go false false p q z = (p, q)
+
+-- the round trips
+
+below : (form : Form) → (ts : List ℕ) (h : ℕ) → h < length (shown form ts .holders) → noHolder form ts h ≡ false
+below form ts h l = lt-leb (holdersTold form ts) h (subst (λ (n : ℕ). h < n) (shown-holders form ts) l)
+
+back-again : (form : Form) → WrittenReadsBack form (ours form)
+back-again form ts ws out us vs h k l b t lh w d f u lk z room =
+    let g = ready-good form t in
+    let j = writes (usable (length out)) l d f in
+    let e = writes-list form ts ws h out l (record { table = good-table form ts g; work = ready-work form ts ws g (t .work); held = below form ts h lh; sound = good-sound form ts g }) w j in
+    let (_, right, same) = written-read (length out) l (word-atoms form ts h l (g .table) b w) j in
+    let xs = written l in
+    let (size, some) = right-size xs (length xs) right in
+    let i = ready-good form u in
+    let takes-it : Taken form us vs k xs = record {
+      entered = record { table = good-table form us i; work = ready-work form us vs i (u .work); held = below form us k lk; size = size; some = some; sound = good-sound form us i };
+      vacant = z;
+      right = ap (λ (a : Answer). a .no) right;
+      room = subst (λ (m : Lst). extent m ≤ frees (shown form us .cells)) (sym same) room;
+    } in
+    let cut : take (length xs) (over xs out) ≡ xs = take-append-seam xs (drop (length xs) out) in
+    subst (λ (y : Write). let r = readingIn form us vs k (take (y .count) (y .output)) in (y .answer ≡ DONE) × (r .answer ≡ DONE) × (r .count ≡ y .count) × Has form (r .table) k l) (sym e)
+    (subst (λ (ys : List ℕ). let r = readingIn form us vs k ys in (DONE ≡ DONE) × (r .answer ≡ DONE) × (r .count ≡ length xs) × Has form (r .table) k l) (sym cut)
+    (subst (λ (r : Reading). (DONE ≡ DONE) × (r .answer ≡ DONE) × (r .count ≡ length xs) × Has form (r .table) k l) (sym (takes form us vs k xs takes-it))
+    (refl, refl, ap (λ (a : Answer). a .taken) right, subst (Has form (filledIn form us vs k xs .table) k) same (holds us vs k xs takes-it))))
+  where
+    holds : (us vs : List ℕ) (k : ℕ) (xs : List ℕ) → Taken form us vs k xs → Has form (filledIn form us vs k xs .table) k (listIn xs)
+    holds us vs k xs t = subst (λ (q : Pool). ListAt (q .cells) (holder q k) (listIn xs)) (sym (read-stored form t .shows)) (read-pool form us vs k xs t .gets)
+
+-- the holders that are shown are as many as before
+held-as : (form : Form) → (ts us : List ℕ) (q : Pool) (h : ℕ) → shown form us ≡ q → length (q .holders) ≡ length (shown form ts .holders) → noHolder form ts h ≡ false → noHolder form us h ≡ false
+held-as form ts us q h e l n = ap (λ (k : ℕ). leb k h) (sym (shown-holders form us) ∙ ap (λ (p : Pool). length (p .holders)) e ∙ l ∙ shown-holders form ts) ∙ n
+
+out-again : (form : Form) → ReadWritesBack (ours form)
+out-again form ts ws vs out h xs t =
+    read-ways form ts ws h xs (λ (r : Reading). r .answer ≡ DONE → Records xs (r .count) t → 2 * cellsTold ts ≤ length vs → r .count ≤ length out → let w = writingIn form (r .table) vs h out in (w .answer ≡ DONE) × (w .output ≡ over (filled (plain t)) out))
+    (λ n us d e. absurd (d e))
+    (λ k _. go k)
+  where
+    go : Taken form ts ws h xs → Records xs (verdict xs .taken) t → 2 * cellsTold ts ≤ length vs → verdict xs .taken ≤ length out → let w = writingIn form (filledIn form ts ws h xs .table) vs h out in (w .answer ≡ DONE) × (w .output ≡ over (filled (plain t)) out)
+    go k c v f =
+        let q = read (shown form ts) h (listIn xs) in
+        let us = stored form ts q in
+        let st = read-stored form k in
+        let d = read-pool form ts ws h xs k in
+        let g = stored-good form ts q st (d .sound) in
+        let m = verdict xs .taken in
+        let right = taken-verdict xs (k .right) in
+        let told = cells-told form ts (k .entered .table) in
+        let o : Opened form us vs h = record { table = good-table form us g; work = le-ltb (length vs) (2 * cellsOf form us) (omega (arith, st .cells)); held = held-as form ts us q h (st .shows) (read-alike (shown form ts) h (listIn xs) .holders) (k .entered .held); sound = good-sound form us g } in
+        let w : Has form us h (listIn xs) = subst (λ (p : Pool). ListAt (p .cells) (holder p h) (listIn xs)) (sym (st .shows)) (d .gets) in
+        let e = writes-list form us vs h out (listIn xs) o w (read-written xs m (length out) right f) in
+        (ap (λ (y : Write). y .answer) e, ap (λ (y : Write). y .output) e ∙ ap (λ (y : List ℕ). over (filled y) out) (accepted xs m right .1 ∙ plain-records xs m t c))
+
+pub demand2 : (form : Form) → Demand2 form (ours form)
+demand2 form = record {
+  set-up-gives = set-up-gives form;
+  operations-give = operation-gives form;
+  operations-use-their-cells = operations-use form;
+  borrow-shares = borrow-shares form;
+  prefix-takes-head = prefix-takes form;
+  decap-frees-to-head = decap-frees form;
+  live-cells-stay = live-cells-stay form;
+  others-stay = others form;
+  scripts-give = script-gives form;
+  reading-gives = reading form;
+  reading-uses-its-cells = reading-uses form;
+  checking-gives = checking form;
+  checking-takes = check-takes;
+  reading-takes = λ ts ws h xs. read-ways form ts ws h xs (λ (r : Reading). r .answer ≡ DONE → TakesRecords xs (r .count)) (λ n us d e. absurd (d e)) (λ t e. check-takes xs (t .right));
+  rest-gives = after-list form;
+  writing-gives = written-out form;
+  written-reads-back = back-again form;
+  read-writes-back = out-again form;
+}

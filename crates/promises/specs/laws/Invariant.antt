@@ -1,0 +1,89 @@
+-- Every table that our calls can make is a table of its shape, and sound. By induction on the calls.
+use mathlib.Core.Path.{_≡_, refl, _∙_, subst}
+use mathlib.Core.Logic.{_≢_}
+use mathlib.Core.Bool.{Bool, true, false, cond}
+use mathlib.Core.List.{List}
+use Prim.Native.Nat.{ℕ}
+use native.Mathlib.Omega.{arith}
+use lib.ListN.{length, length-set}
+use Rattle.answers.specs.Answers.{DONE, TABLE-SIZE}
+use Rattle.lists.specs.Lst.{Lst, nil, atom, list}
+use Rattle.pool.specs.Pool.{Cell, Pool, nextOf}
+use Rattle.pool.specs.laws.Edit.{put-length}
+use Rattle.pool.specs.Operations.{fresh, load, read}
+use Rattle.pool.specs.Script.{performed}
+use Rattle.pool.specs.laws.Lengths.{Alike}
+use Rattle.pool.specs.laws.ScriptLaws.{performed-sound, performed-alike}
+use Rattle.table.specs.Limits.{holdersMost}
+use Rattle.table.specs.View.{shape, words}
+use Rattle.table.specs.Sizes.{sizesFit}
+use Rattle.text.specs.Marks.{listIn}
+use Rattle.setup.specs.SetUp.{Given, setUp, setUpIn}
+use Rattle.setup.specs.laws.SetUpLaws.{set-up-new}
+use Rattle.calls.specs.Entry.{shown}
+use Rattle.calls.specs.Run.{Ran, operations, ranIn}
+use Rattle.calls.specs.Read.{Read as Reading, readingIn}
+use Rattle.promises.specs.Engine.{ours, Reached, made, setAgain, ranOn, readInto}
+use Rattle.promises.specs.laws.Tables.{Good, shape-good, Stored, stores, stored-good}
+use Rattle.promises.specs.laws.RunLaws.{Passed, passed-good, run-ways}
+use Rattle.promises.specs.laws.ReadLaws.{Taken, entered-good, read-ways, read-pool}
+use Rattle.table.specs.declared.Form.{Form}
+
+-- reading changes no length
+load-length : (l : Lst) (f : ℕ) (cs : List Cell) → length (load l f cs .cells) ≡ length cs
+unfolding load
+load-length nil f cs = refl
+load-length (atom v l) f cs =
+    let z = load l (nextOf cs f) cs in
+    put-length (z .cells) f (record { kind = 0; elem = v; count = 1; next = z .head }) ∙ load-length l (nextOf cs f) cs
+load-length (list e l) f cs =
+    let u = load e (nextOf cs f) cs in
+    let z = load l (u .free) (u .cells) in
+    put-length (z .cells) f (record { kind = 1; elem = u .head; count = 1; next = z .head }) ∙ load-length l (u .free) (u .cells) ∙ load-length e (nextOf cs f) cs
+
+pub read-alike : (p : Pool) (h : ℕ) (l : Lst) → Alike p (read p h l)
+unfolding read
+read-alike p h l = record { holders = length-set (p .holders) h (load l (p .free) (p .cells) .head); cells = load-length l (p .free) (p .cells) }
+
+-- setting up
+
+pub set-up-ways : (form : Form) → (ts : List ℕ) (n : ℕ) (P : Given → Type 0) → (sizesFit (shape form holdersMost n) (length ts) ≡ true → P (record { answer = DONE; table = words (shape form holdersMost n) (fresh n holdersMost) }))
+    → (sizesFit (shape form holdersMost n) (length ts) ≡ false → P (record { answer = TABLE-SIZE; table = ts })) → P (setUpIn form ts n)
+unfolding setUp
+set-up-ways form ts n P f g = go (sizesFit (shape form holdersMost n) (length ts)) refl
+  where
+    go : (b : Bool) → sizesFit (shape form holdersMost n) (length ts) ≡ b → P (cond b (record { answer = DONE; table = words (shape form holdersMost n) (fresh n holdersMost) }) (record { answer = TABLE-SIZE; table = ts }))
+    go true e = f e
+    go false e = g e
+
+new-good : (form : Form) → (ts : List ℕ) (n : ℕ) → sizesFit (shape form holdersMost n) (length ts) ≡ true → Good form (words (shape form holdersMost n) (fresh n holdersMost))
+unfolding setUp
+new-good form ts n e =
+    let w = set-up-new (shape form holdersMost n) ts e in
+    let q : setUpIn form ts n ≡ record { answer = DONE; table = words (shape form holdersMost n) (fresh n holdersMost) } = rw e in
+    subst (λ (g : Given). Good form (g .table)) q (shape-good form (shape form holdersMost n) (setUpIn form ts n .table) refl (w .table) (w .sound))
+
+set-up-good : (form : Form) → (ts : List ℕ) (n : ℕ) → (setUpIn form ts n .answer ≢ DONE → Good form ts) → Good form (setUpIn form ts n .table)
+set-up-good form ts n = set-up-ways form ts n (λ (g : Given). (g .answer ≢ DONE → Good form ts) → Good form (g .table)) (λ e h. new-good form ts n e) (λ e h. h (λ z. omega arith))
+
+-- what was stored after a script, and after a reading
+
+pub ran-stored : (form : Form) → {ts ws ss rs : List ℕ} → Passed form ts ws ss rs → Stored form ts (performed (shown form ts) (operations ss) .pool)
+ran-stored form {ts} {ws} {ss} p = stores form ts (performed (shown form ts) (operations ss) .pool) (passed-good form p .table) (performed-alike (operations ss) (shown form ts)) (performed-sound (operations ss) (shown form ts) (passed-good form p .sound))
+
+pub read-stored : (form : Form) → {ts ws xs : List ℕ} {h : ℕ} → Taken form ts ws h xs → Stored form ts (read (shown form ts) h (listIn xs))
+read-stored form {ts} {ws} {xs} {h} t = stores form ts (read (shown form ts) h (listIn xs)) (entered-good form ts ws h xs (t .entered) .table) (read-alike (shown form ts) h (listIn xs)) (read-pool form ts ws h xs t .sound)
+
+pub ran-good : (form : Form) → (ts ws ss rs : List ℕ) → Good form ts → Good form (ranIn form ts ws ss rs .table)
+ran-good form ts ws ss rs g = run-ways form ts ws ss rs (λ (r : Ran). Good form (r .table)) (λ n us m. g)
+    (λ p. stored-good form ts (performed (shown form ts) (operations ss) .pool) (ran-stored form p) (performed-sound (operations ss) (shown form ts) (g .sound)))
+
+pub read-good : (form : Form) → (ts ws : List ℕ) (h : ℕ) (xs : List ℕ) → Good form ts → Good form (readingIn form ts ws h xs .table)
+read-good form ts ws h xs g = read-ways form ts ws h xs (λ (r : Reading). Good form (r .table)) (λ n us m. g)
+    (λ t. stored-good form ts (read (shown form ts) h (listIn xs)) (read-stored form t) (read-pool form ts ws h xs t .sound))
+
+pub reached-good : (form : Form) → {ts : List ℕ} → Reached (ours form) ts → Good form ts
+reached-good form (made ts n e) = set-up-good form ts n (λ m. absurd (m e))
+reached-good form (setAgain {ts = ts} n r) = set-up-good form ts n (λ m. reached-good form r)
+reached-good form (ranOn {ts = ts} ws ss rs r) = ran-good form ts ws ss rs (reached-good form r)
+reached-good form (readInto {ts = ts} ws h xs r) = read-good form ts ws h xs (reached-good form r)

@@ -1,0 +1,107 @@
+-- Engines whose answers and lists are right and whose words are not: each breaks the statement that its theorem names.
+use mathlib.Core.Path.{_≡_, refl, ap}
+use mathlib.Core.Logic.{inl}
+use mathlib.Core.List.{List, [], _∷_, _++_}
+use Prim.Native.Nat.{ℕ}
+use native.Mathlib.Omega.{arith}
+use lib.ListN.{length, getD, replicate}
+use Rattle.lists.specs.Lst.{extent}
+use Rattle.pool.specs.Operations.{pfl, copy, cinv, load, read}
+use Rattle.pool.specs.Script.{PFL, BORROW, ERASE, Operation}
+use Rattle.text.specs.Marks.{listIn}
+use Rattle.text.specs.Text.{scanned, verdict}
+use Rattle.setup.specs.SetUp.{setUp, setUpIn}
+use Rattle.calls.specs.Read.{readingIn}
+use Rattle.calls.specs.Write.{writingIn}
+use Rattle.promises.specs.Demand1.{RefusedSetUp, RefusedRun, RefusedRead, RefusedWrite, RefusedCheck, RunWork, ReadWork, WriteWork}
+use Rattle.promises.specs.Cells.{BorrowShares, OperationsUseTheirCells, ReadingUsesItsCells}
+use Rattle.promises.specs.Demand2.{SetUpGives, RestGives}
+use Rattle.promises.specs.refuted.WrongEngines.{setsUpDirty, clearsFirst, copying, waitsInLine}
+use Rattle.promises.specs.refuted.WrongTexts.{countsRefused, keepsCells, losesRest, loadLate, takesLate}
+use Rattle.promises.specs.refuted.Computed.{computed}
+use Rattle.promises.specs.refuted.Refuted.{zeros, prefix, two}
+use Rattle.table.specs.declared.Form.the-variants.{Four}
+
+-- the type of cell 1 is one of the words that are 0
+pub sets-up-dirty : SetUpGives Four setsUpDirty → ⊥
+unfolding computed
+sets-up-dirty d = omega (arith, d (zeros 70) 1 refl .1 .empty 0 0 (omega arith) (omega arith))
+
+-- TABLE SIZE leaves all as lent: a word 9 of the table, the results, the output or the work space
+abbrev nine : List ℕ
+nine = 9 ∷ []
+
+cleared-nine : 0 ∷ [] ≡ nine → ⊥
+cleared-nine e = omega (arith, ap (λ (us : List ℕ). getD us 0 0) e)
+
+pub clears-set-up : RefusedSetUp clearsFirst → ⊥
+unfolding computed
+clears-set-up d = cleared-nine (d nine 0 (λ z. omega arith))
+
+pub clears-results : RefusedRun Four clearsFirst → ⊥
+unfolding computed
+clears-results d = cleared-nine (d [] [] [] nine (λ n. n .0 (inl (omega arith))) .1)
+
+pub clears-output : RefusedWrite clearsFirst → ⊥
+unfolding computed writingIn
+clears-output d = cleared-nine (d [] [] 0 nine (λ z. omega arith) .0)
+
+pub clears-run-work : RunWork Four clearsFirst → ⊥
+unfolding computed
+clears-run-work d = cleared-nine (d [] nine [] [] .0 (λ n. n .0 (inl (omega arith))))
+
+pub clears-read-work : ReadWork Four clearsFirst → ⊥
+unfolding computed readingIn
+clears-read-work d = cleared-nine (d [] nine 0 [] .0 (λ n. n .0 (inl (omega arith))))
+
+pub clears-write-work : WriteWork Four clearsFirst → ⊥
+unfolding computed writingIn
+clears-write-work d = cleared-nine (d [] nine 0 [] .0 (λ n. n .0 (inl (omega arith))))
+
+-- "(" and blanks are no list, and the one cell stays free
+pub keeps-cells : RefusedRead keepsCells → ⊥
+unfolding computed readingIn verdict scanned
+keeps-cells d =
+    let one = setUpIn Four (zeros 70) 1 .table in
+    let e = d one (zeros 2) 0 (40 ∷ replicate 71 32) (λ z. omega arith) .0 in
+    omega (arith, ap (λ (us : List ℕ). getD us 1 0) e)
+
+-- a text of 0 bytes is refused, with 0 bytes taken
+pub counts-refused : RefusedCheck countsRefused → ⊥
+unfolding verdict
+counts-refused d = omega (arith, d [] (λ z. omega arith))
+
+-- the null list in one record, and a record behind it
+abbrev text : List ℕ
+text = 40 ∷ 41 ∷ (replicate 70 32 ++ replicate 72 40)
+
+pub loses-rest : RestGives losesRest → ⊥
+unfolding verdict scanned
+loses-rest d = let e : _≡_ {A = List ℕ} [] (replicate 72 40) = d text .0 refl in omega (arith, ap length e)
+
+-- after PFA to holder 0, BORROW of it is another cell
+pub copying-refuted : BorrowShares Four copying → ⊥
+unfolding computed cinv copy
+copying-refuted d =
+    let t = copying .run two (zeros 4) (prefix 0 5) (zeros 2) .table in
+    let o : Operation = record { code = BORROW; a = 0; b = 1; v = 0 } in
+    let e : _≡_ {A = ℕ} 2 1 = d t (zeros 4) (zeros 2) o refl refl .0 in
+    omega arith
+
+-- two null lists in one list: the last to wait is freed first, so that the other leads the free chain
+pub waits-in-line : OperationsUseTheirCells Four waitsInLine → ⊥
+unfolding computed pfl
+waits-in-line d =
+    let t = waitsInLine .run two (zeros 4) (PFL ∷ 0 ∷ 1 ∷ 0 ∷ PFL ∷ 0 ∷ 1 ∷ 0 ∷ []) (zeros 4) .table in
+    let o : Operation = record { code = ERASE; a = 0; b = 0; v = 0 } in
+    let e : _≡_ {A = ℕ} 1 2 = ap (λ (us : List ℕ). getD us 1 0) (d t (zeros 4) (zeros 2) o refl) in
+    omega arith
+
+-- ((1),2) in three cells: the element of the first is the second, where the late reader has the third
+pub takes-late : ReadingUsesItsCells Four takesLate → ⊥
+unfolding computed readingIn verdict scanned listIn extent load read loadLate
+takes-late d =
+    let three = setUpIn Four (zeros 78) 3 .table in
+    let xs : List ℕ = 40 ∷ 40 ∷ 49 ∷ 41 ∷ 44 ∷ 50 ∷ 41 ∷ replicate 65 32 in
+    let e : _≡_ {A = ℕ} 3 2 = ap (λ (us : List ℕ). getD us 67 0) (d three (zeros 6) 0 xs refl) in
+    omega arith

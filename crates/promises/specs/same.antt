@@ -1,0 +1,5 @@
+pub mod SameParts
+pub mod SameRun
+pub mod SameRows
+pub mod SameSetUp
+pub mod SameText

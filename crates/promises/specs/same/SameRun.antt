@@ -1,0 +1,119 @@
+-- Every engine that keeps the promises stops a script where ours does, with the same table and results: the rows fix each answer, the cells
+-- each table and the lists each result. By induction on the operations.
+use mathlib.Core.Path.{_≡_, refl, sym, ap, _∙_, subst}
+use mathlib.Core.Logic.{_≢_}
+use mathlib.Core.Bool.{false}
+use mathlib.Core.List.{List, [], _∷_, _++_}
+use Prim.Native.Nat.{ℕ, suc, _*_}
+use native.Mathlib.Decide.{ℕ-discrete}
+use lib.Dec.{ltb}
+use lib.ListN.{length, getD}
+use borrow.Author.Tests.{eq-eqb, ne-eqb}
+use Rattle.answers.specs.Answers.{DONE}
+use Rattle.pool.specs.Pool.{Pool}
+use Rattle.pool.specs.Operations.{erase}
+use Rattle.pool.specs.laws.EraseLaws.{erases}
+use Rattle.pool.specs.laws.SoundLaws.{denoted}
+use Rattle.pool.specs.Script.{ERASE, Operation, Effect, refusal, effect, tellsNumber, performed}
+use Rattle.pool.specs.laws.ScriptLaws.{allowed, effect-sound}
+use Rattle.calls.specs.Entry.{badWork, shown, stored, over}
+use Rattle.calls.specs.Run.{operations}
+use Rattle.promises.specs.Engine.{Engine}
+use Rattle.promises.specs.Rows.{Answers}
+use Rattle.promises.specs.Grounds.{operationRows}
+use Rattle.promises.specs.Machine.{Lists, says}
+use Rattle.promises.specs.Demand1.{wordsOf, alone, Stops, end, refused, done}
+use Rattle.promises.specs.Demand3.{OnlyBy, erasing}
+use Rattle.promises.specs.Keeps.{Keeps}
+use Rattle.promises.specs.laws.OperationRows.{operation-answers}
+use Rattle.promises.specs.laws.OperationLaws.{HoldsIn, operation-does}
+use Rattle.promises.specs.laws.Tables.{Good, stored-good, stored-same}
+use Rattle.promises.specs.laws.RunLaws.{passed-none}
+use Rattle.promises.specs.laws.OneOperation.{effect-stored}
+use Rattle.promises.specs.laws.FreeCells.{Number-unique}
+use Rattle.promises.specs.kept.Demand1Kept.{one-passes}
+use Rattle.promises.specs.kept.Demand3Kept.{effect-erase}
+use Rattle.promises.specs.OneOutcome.{one-answer}
+use Rattle.table.specs.declared.Form.{Form}
+
+abbrev zeros : List ℕ
+zeros = 0 ∷ 0 ∷ []
+
+abbrev told : Effect → List ℕ
+told d = d .kind ∷ d .value ∷ []
+
+-- only ERASE tells the number of cells freed
+says-same : (m : Lists) (o : Operation) (n k : ℕ) → o .code ≢ ERASE → says m o n ≡ says m o k
+unfolding says
+says-same m o n k h = rw (ne-eqb (o .code) ERASE h)
+
+says-erase : (m : Lists) (o : Operation) (n : ℕ) → o .code ≡ ERASE → says m o n ≡ 2 ∷ n ∷ []
+unfolding says
+says-erase m o n e = rw e
+
+-- the pool's operation answers its rows
+rows-refusal : (form : Form) → (ts : List ℕ) (o : Operation) (n : ℕ) → Good form ts → Answers (operationRows (shown form ts) o) n → refusal (shown form ts) o ≡ n
+rows-refusal form ts o n g a = one-answer (operationRows (shown form ts) o) (refusal (shown form ts) o) n (operation-answers (shown form ts) o (g .sound)) a
+
+module _ (form : Form) (E : Engine) (K : Keeps form E) (ws : List ℕ) where
+  module _ (ts : List ℕ) (o : Operation) (g : Good form ts) (w : badWork form ts ws ≡ false) (a : Answers (operationRows (shown form ts) o) DONE) where
+    -- what its rows allow is done
+    allows : alone E ws ts o .answer ≡ DONE
+    unfolding operations
+    allows = let (qs, s, _) = K .first .scripts-stop ts ws (wordsOf o) zeros (passed-none form ts ws (wordsOf o) zeros (one-passes form ts ws o g w)) in only s
+      where
+        only : {n k : ℕ} {us qs : List ℕ} → Stops form E ws ts (o ∷ []) n k us qs → n ≡ DONE
+        only {n} (refused b f) = sym (rows-refusal form ts o n g b) ∙ rows-refusal form ts o DONE g a
+        only (done b end) = refl
+
+    table-is : alone E ws ts o .table ≡ stored form ts (effect (shown form ts) o .pool)
+    table-is = K .second .operations-use-their-cells ts ws zeros o allows
+
+    -- the number of ERASE is that of the cells that only a reaches
+    erased-are : o .code ≡ ERASE → (n : ℕ) → alone E ws ts o .results ≡ 2 ∷ n ∷ [] → 2 ∷ n ∷ [] ≡ told (effect (shown form ts) o)
+    erased-are h n q =
+        let code : wordsOf o ≡ erasing (o .a) (o .b) (o .v) = ap (λ (c : ℕ). c ∷ o .a ∷ o .b ∷ o .v ∷ []) h in
+        let c = K .third .erase-counts ts ws zeros (o .a) (o .b) (o .v) (subst (λ (ss : List ℕ). E .run ts ws ss zeros .answer ≡ DONE) code allows) .1 in
+        let r : n ≡ getD (E .run ts ws (erasing (o .a) (o .b) (o .v)) zeros .results) 1 0 = sym (ap (λ (qs : List ℕ). getD qs 1 0) q) ∙ ap (λ (ss : List ℕ). getD (E .run ts ws ss zeros .results) 1 0) code in
+        let u : n ≡ erase (shown form ts) (o .a) .1 = r ∙ Number-unique (OnlyBy (shown form ts) (o .a)) c (erases (shown form ts) (o .a) (g .sound) .number) in
+        let d : effect (shown form ts) o ≡ tellsNumber (erase (shown form ts) (o .a) .1) (erase (shown form ts) (o .a) .0)
+        = ap (λ (x : ℕ). effect (shown form ts) (record { code = x; a = o .a; b = o .b; v = o .v })) h ∙ effect-erase (shown form ts) (o .a) (o .b) (o .v) in
+        ap (λ (x : ℕ). 2 ∷ x ∷ []) u ∙ sym (ap told d)
+
+    results-are : alone E ws ts o .results ≡ told (effect (shown form ts) o)
+    results-are = go (ℕ-discrete (o .code) ERASE) (K .second .operations-give ts ws zeros o m have allows .1)
+      where
+        m : Lists
+        m i = denoted (shown form ts) (g .sound) i .0
+
+        have : HoldsIn (shown form ts) m
+        have i = denoted (shown form ts) (g .sound) i .1
+
+        go : Dec (o .code ≡ ERASE) → (n : ℕ) × (alone E ws ts o .results ≡ over (says m o n) zeros) → alone E ws ts o .results ≡ told (effect (shown form ts) o)
+        go (no h) (n, e) =
+            let (k, f) = operation-does (shown form ts) o (g .sound) (allowed (shown form ts) o (rows-refusal form ts o DONE g a)) .words m have in
+            e ∙ ap (λ (qs : List ℕ). over qs zeros) (says-same m o n k h ∙ sym f)
+        go (yes h) (n, e) =
+            let q : alone E ws ts o .results ≡ 2 ∷ n ∷ [] = e ∙ ap (λ (qs : List ℕ). over qs zeros) (says-erase m o n h) in
+            q ∙ erased-are h n q
+
+  -- where the operations stop, and with what
+  pub stops-as : (os : List Operation) {ts us qs : List ℕ} {n k : ℕ} → Good form ts → badWork form ts ws ≡ false → Stops form E ws ts os n k us qs
+      → let r = performed (shown form ts) os in (n ≡ r .answer) × (k ≡ r .done) × (us ≡ stored form ts (r .pool)) × (qs ≡ r .results)
+  unfolding performed
+  stops-as [] {ts} g w end = (refl, refl, sym (stored-same form ts (g .table)), refl)
+  stops-as (o ∷ os) {ts} {n = n} g w (refused a f) =
+      let e = rows-refusal form ts o n g a in
+      rw (ne-eqb (refusal (shown form ts) o) DONE (λ z. f (sym e ∙ z))) (sym e, refl, sym (stored-same form ts (g .table)), refl)
+  stops-as (o ∷ os) {ts} {us} g w (done {qs = qs} {n = n} {k = k} a s) =
+      let e = rows-refusal form ts o DONE g a in
+      let q = effect (shown form ts) o .pool in
+      let st = effect-stored form ts o g e in
+      let next = subst (λ (vs : List ℕ). Stops form E ws vs os n k us qs) (table-is ts o g w a) s in
+      let (x, y, z, v) = stops-as os (stored-good form ts q st (effect-sound (shown form ts) o (g .sound) (allowed (shown form ts) o e))) (ap (λ (c : ℕ). ltb (length ws) (2 * c)) (st .cells) ∙ w) next in
+      rw (eq-eqb (refusal (shown form ts) o) DONE e) (
+        x ∙ ap (λ (p : Pool). performed p os .answer) (st .shows),
+        ap suc (y ∙ ap (λ (p : Pool). performed p os .done) (st .shows)),
+        z ∙ st .again _ ∙ ap (λ (p : Pool). stored form ts (performed p os .pool)) (st .shows),
+        ap (λ (rs : List ℕ). rs ++ qs) (results-are ts o g w a) ∙ ap (λ (rs : List ℕ). told (effect (shown form ts) o) ++ rs) (v ∙ ap (λ (p : Pool). performed p os .results) (st .shows)),
+      )

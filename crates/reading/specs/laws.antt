@@ -1,0 +1,9 @@
+pub mod BuildLaws
+pub mod MarksLeft
+pub mod ReadingLaws
+pub mod HookLaws
+pub mod UnderwayLaws
+pub mod AcceptingLaws
+pub mod AddLaws
+pub mod PassLaws
+pub mod ReadLaws

@@ -1,0 +1,2 @@
+pub mod MidwayLaws
+pub mod RunLaws

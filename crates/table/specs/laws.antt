@@ -1,0 +1,4 @@
+pub mod ViewLaws
+pub mod WordsLaws
+pub mod SizesLaws
+pub mod Fitting

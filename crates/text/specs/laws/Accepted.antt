@@ -1,0 +1,129 @@
+-- The check's answer and the list: what it takes is written back without blanks and leading zeros, and its extent is counted along the text.
+use Prim.Native.Nat.{ℕ, suc, _+_, _-_, _*_, _%_, _<_, _≤_}
+use mathlib.Core.Path.{_≡_, refl, ap, _∙_}
+use mathlib.Core.List.{List, [], _∷_}
+use mathlib.Core.Bool.{Bool, true, false, cond}
+use native.Mathlib.Omega.{arith}
+use lib.ListN.{length, length-append, take}
+use lib.Dec.{eqb, leb, ltb}
+use borrow.Author.Tests.{leb-true, eq-eqb, ne-eqb, le-leb}
+use Rattle.lists.specs.Lst.{extent}
+use Rattle.text.specs.Limits.{levels, recordBytes, textMost, digitsMost, atomsEnd}
+use Rattle.text.specs.Text.{Scan, begin, mayOpen, mayShut, mayPart, mayBegin, isAtom, isOver, Step, mark, fault, State, at, refused, taken, next, run, settle, stepOf, Answer, answer, scanned, verdict, done, refusal}
+use Rattle.text.specs.ListText.{textOf, bare}
+use Rattle.text.specs.Marks.{marksOf, trace, listIn, begun}
+use Rattle.text.specs.laws.TextLaws.{by-case}
+use Rattle.text.specs.laws.MarkLaws.{begun-extent}
+use Rattle.text.specs.laws.Front.{front}
+use Rattle.text.specs.laws.ReadBack.{read-write}
+
+-- what both sides of a choice have
+either {ℓ} : {A : Type ℓ} (P : A → Type 0) (t : Bool) {x y : A} → P x → P y → P (cond t x y)
+either P t h k = by-case t P (λ e. h) (λ e. k)
+
+-- no fault has the number 0
+abbrev Numbered : Step → Type 0
+Numbered (mark s) = Unit {0}
+Numbered (fault k) = k ≡ 0 → ⊥
+
+no : (k : ℕ) → suc k ≡ 0 → ⊥
+no k e = omega arith
+
+faults-numbered : (s : Scan) (b : ℕ) → Numbered (stepOf s b)
+faults-numbered s b =
+    either Numbered (eqb b 40)
+    (either Numbered (mayOpen (s .phase)) (either Numbered (ltb (s .depth) levels) tt (no 16)) (no 14))
+    (either Numbered (eqb b 41)
+    (either Numbered (mayShut (s .phase)) (either Numbered (ltb (s .depth) 2) tt tt) (no 14))
+    (either Numbered (eqb b 44)
+    (either Numbered (mayPart (s .phase)) tt (no 14))
+    (either Numbered (eqb b 32)
+    (either Numbered (isOver (s .phase)) tt (no 14))
+    (either Numbered (leb 48 b)
+    (either Numbered (leb b 55)
+    (either Numbered (mayBegin (s .phase)) tt
+    (either Numbered (isAtom (s .phase))
+    (either Numbered (ltb (s .digits) digitsMost) (either Numbered (ltb (s .value * 8 + (b - 48)) atomsEnd) tt (no 15)) (no 15))
+    (no 14)))
+    (no 14))
+    (no 14)))))
+
+-- a refusal has a number, and what is taken has bytes
+abbrev Honest : State → Type 0
+Honest (at s n) = Unit {0}
+Honest (refused k) = k ≡ 0 → ⊥
+Honest (taken n) = n ≡ 0 → ⊥
+
+settle-honest : (n : ℕ) (u : Step) → Numbered u → Honest (settle (n + 1) u)
+settle-honest n (mark s) h =
+    either Honest (isOver (s .phase)) (either Honest (eqb ((n + 1) % recordBytes) 0) (λ e. omega arith) tt) tt
+settle-honest n (fault k) h = h
+
+next-honest : (st : State) (b : ℕ) → Honest st → Honest (next st b)
+next-honest (at s n) b h = settle-honest n (stepOf s b) (faults-numbered s b)
+next-honest (refused k) b h = h
+next-honest (taken n) b h = h
+
+run-honest : (l : List ℕ) (st : State) → Honest st → Honest (run st l)
+run-honest [] st h = h
+run-honest (b ∷ l) st h = run-honest l (next st b) (next-honest st b h)
+
+answer-taken : (st : State) (m : ℕ) → Honest st → answer st ≡ done m → st ≡ taken m
+answer-taken (at s n) m h e = let z : _≡_ {A = ℕ} 15 0 = ap (λ (a : Answer). a .no) e in absurd (omega arith)
+answer-taken (refused k) m h e = absurd (h (ap (λ (a : Answer). a .no) e))
+answer-taken (taken n) m h e = ap taken (ap (λ (a : Answer). a .taken) e)
+
+nought : (st : State) → Honest st → answer st ≡ refusal 0 → ⊥
+nought (at s n) h e = let z : _≡_ {A = ℕ} 15 0 = ap (λ (a : Answer). a .no) e in omega arith
+nought (refused k) h e = h (ap (λ (a : Answer). a .no) e)
+nought (taken n) h e = h (ap (λ (a : Answer). a .taken) e)
+
+-- no text is answered by 0 and 0
+pub never-nought : (s : List ℕ) → scanned s ≡ refusal 0 → ⊥
+unfolding scanned
+never-nought s e = nought (run (at begin 0) s) (run-honest s (at begin 0) tt) e
+
+pub scanned-run : (s : List ℕ) (m : ℕ) → scanned s ≡ done m → run (at begin 0) s ≡ taken m
+unfolding scanned
+scanned-run s m e = answer-taken (run (at begin 0) s) m (run-honest s (at begin 0) tt) e
+
+-- the size was right
+past : (t : Bool) (k : ℕ) (a : Answer) (m : ℕ) → cond t a (refusal (suc k)) ≡ done m → (t ≡ true) × (a ≡ done m)
+past true k a m e = (refl, e)
+past false k a m e = let z : suc k ≡ 0 = ap (λ (x : Answer). x .no) e in absurd (omega arith)
+
+past-first : (t : Bool) (k : ℕ) (a : Answer) (m : ℕ) → cond t (refusal (suc k)) a ≡ done m → a ≡ done m
+past-first true k a m e = let z : suc k ≡ 0 = ap (λ (x : Answer). x .no) e in absurd (omega arith)
+past-first false k a m e = e
+
+pub sized : (s : List ℕ) (m : ℕ) → verdict s ≡ done m → (length s ≤ textMost) × (scanned s ≡ done m)
+unfolding verdict
+sized s m e =
+    let some = cond (eqb (length s) 0) (refusal 14) (scanned s) in
+    let whole = past (eqb (length s % recordBytes) 0) 12 (cond (leb (length s) textMost) some (refusal 13)) m e in
+    let fits = past (leb (length s) textMost) 12 some m (whole .1) in
+    (leb-true _ _ (fits .0), past-first (eqb (length s) 0) 13 (scanned s) m (fits .1))
+
+pub right-size : (s : List ℕ) → 0 < length s → length s ≤ textMost → length s % recordBytes ≡ 0 → verdict s ≡ scanned s
+unfolding verdict
+right-size s h small whole =
+    let some : length s ≡ 0 → ⊥ = λ z. omega arith in
+    simp (eq-eqb _ _ whole, le-leb _ _ small, ne-eqb _ _ some)
+
+pub taken-run : (s : List ℕ) (m : ℕ) → verdict s ≡ done m → run (at begin 0) s ≡ taken m
+taken-run s m e = scanned-run s m ((sized s m e) .1)
+
+-- the bytes taken are whole records of the text
+pub taken-within : (s : List ℕ) (m : ℕ) → verdict s ≡ done m → (m ≤ length s) × (m % recordBytes ≡ 0)
+taken-within s m e =
+    let f = front s (at begin 0) 0 m refl (taken-run s m e) in
+    (omega (arith, f .bytes, ap length (f .parts), length-append (f .part) (f .later)), f .whole)
+
+-- read, then write, in terms of the check's answer
+pub accepted : (s : List ℕ) (m : ℕ) → verdict s ≡ done m
+    → (trace (at begin 0) s ≡ marksOf true (listIn s)) × (textOf (listIn s) ≡ bare false (take m s))
+accepted s m e = read-write s m (taken-run s m e)
+
+-- the elements that begin in a text that is taken, and the outermost "(", are one more than the extent
+pub begun-text : (s : List ℕ) (m : ℕ) → scanned s ≡ done m → begun (trace (at begin 0) s) ≡ extent (listIn s) + 1
+begun-text s m e = ap begun ((read-write s m (scanned-run s m e)) .0) ∙ begun-extent (listIn s)

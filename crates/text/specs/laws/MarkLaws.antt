@@ -1,0 +1,81 @@
+-- Laws of marks: the marks of a list build it, a scan over two parts, and the elements that begin are the extent. By induction on marks and lists.
+use Prim.Native.Nat.{ℕ, zero, suc, _+_, _<_}
+use mathlib.Core.Path.{_≡_, refl, sym, ap, _∙_}
+use mathlib.Core.List.{List, [], _∷_, _++_, append-assoc}
+use mathlib.Core.Bool.{true, false}
+use native.Mathlib.Omega.{arith}
+use lib.ListN.{replicate}
+use borrow.Author.Tests.{ne-eqb}
+use Rattle.lists.specs.Lst.{Lst, nil, atom, list, extent}
+use Rattle.text.specs.Text.{State, at, refused, taken, next, run}
+use Rattle.text.specs.Marks.{Mark, opened, shut, value, marksOf, met, trace, push, pushes, begun}
+use Rattle.text.specs.laws.TextLaws.{digit}
+
+pub with-open : (l : Lst) → marksOf true l ≡ opened ∷ marksOf false l
+with-open nil = refl
+with-open (atom v l) = refl
+with-open (list m l) = refl
+
+-- the marks of a list build it
+pushes-append : (a b : List Mark) (st : List Lst) → pushes (a ++ b) st ≡ pushes a (pushes b st)
+pushes-append [] b st = refl
+pushes-append (e ∷ a) b st = ap (push e) (pushes-append a b st)
+
+builds : (l : Lst) (st : List Lst) → pushes (marksOf false l) st ≡ l ∷ st
+builds nil st = refl
+builds (atom v l) st = ap (push (value v)) (builds l st)
+builds (list m l) st =
+    pushes-append (marksOf true m) (marksOf false l) st
+    ∙ ap (pushes (marksOf true m)) (builds l st)
+    ∙ ap (λ (es : List Mark). pushes es (l ∷ st)) (with-open m)
+    ∙ ap (push opened) (builds m (l ∷ st))
+
+pub built : (l : Lst) → pushes (marksOf true l) [] ≡ l ∷ []
+built l = ap (λ (es : List Mark). pushes es []) (with-open l) ∙ ap (push opened) (builds l [])
+
+-- the marks of a scan
+pub trace-append : (a b : List ℕ) (st : State) → trace st (a ++ b) ≡ trace st a ++ trace (run st a) b
+trace-append [] b st = refl
+trace-append (x ∷ a) b st =
+    ap (λ (es : List Mark). met st x ++ es) (trace-append a b (next st x))
+    ∙ sym (append-assoc (met st x) (trace (next st x) a) (trace (run (next st x) a) b))
+
+pub trace-taken : (m : ℕ) (t : List ℕ) → trace (taken m) t ≡ []
+trace-taken m [] = refl
+trace-taken m (b ∷ t) = trace-taken m t
+
+pub digit-met : (st : State) (x : ℕ) → x < 8 → met st (48 + x) ≡ []
+digit-met (at s n) x h =
+    let d = digit x h in
+    simp (ne-eqb _ _ (d .no-open), ne-eqb _ _ (d .no-shut), ne-eqb _ _ (d .no-comma))
+digit-met (refused k) x h = refl
+digit-met (taken n) x h = refl
+
+blank-met : (st : State) → met st 32 ≡ []
+blank-met (at s n) = refl
+blank-met (refused k) = refl
+blank-met (taken n) = refl
+
+pub trace-blanks : (k : ℕ) (st : State) → trace st (replicate k 32) ≡ []
+trace-blanks zero st = refl
+trace-blanks (suc k) st =
+    ap (λ (es : List Mark). es ++ trace (next st 32) (replicate k 32)) (blank-met st) ∙ trace-blanks k (next st 32)
+
+-- the elements that begin
+pub begun-append : (a b : List Mark) → begun (a ++ b) ≡ begun a + begun b
+begun-append [] b = omega arith
+begun-append (opened ∷ a) b = omega (arith, begun-append a b)
+begun-append (shut ∷ a) b = begun-append a b
+begun-append (value v ∷ a) b = omega (arith, begun-append a b)
+
+begun-rest : (l : Lst) → begun (marksOf false l) ≡ extent l
+unfolding extent
+begun-rest nil = refl
+begun-rest (atom v l) = omega (arith, begun-rest l)
+begun-rest (list m l) =
+    let e : begun (marksOf true m) ≡ extent m + 1 = ap begun (with-open m) ∙ ap (λ (n : ℕ). n + 1) (begun-rest m) in
+    omega (arith, begun-append (marksOf true m) (marksOf false l), begun-rest l)
+
+-- one more than the cells that reading needs: the outermost "(" has none
+pub begun-extent : (l : Lst) → begun (marksOf true l) ≡ extent l + 1
+begun-extent l = ap begun (with-open l) ∙ ap (λ (n : ℕ). n + 1) (begun-rest l)
