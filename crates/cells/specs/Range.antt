@@ -13,7 +13,8 @@ use Rattle.pool.specs.laws.Held.{Held}
 use Rattle.pool.specs.Operations as operations
 use Rattle.pool.specs.Pool.{Cell, Pool, kindOf, countOf, nextOf, holder, Live, NullOrLive, Chain, mark, Sound}
 use Rattle.pool.specs.laws.SoundLaws.{none-aside, sound-held}
-use Rattle.pool.specs.Tally.{same-of, tally, occ}
+use Rattle.pool.specs.Tally.{tally, occ}
+use Rattle.pool.specs.laws.TallyLaws.{same-of}
 use Rattle.table.specs.View.{holderCount, greatestCount, view, Table, IsCell}
 
 pub null-or-high : (cs : List Cell) (c : ℕ) → NullOrLive cs c → c ≤ length cs

@@ -4,7 +4,7 @@ ghost use mathlib.Core.Logic.{_≢_};
 ghost use Prim.Native.Nat.{_≤_, _<_};
 ghost use Rattle.pool.specs.Pool.{countOf, nextOf};
 ghost use Rattle.pool.specs.Operations.{share, item};
-ghost use Rattle.table.specs.Fields.{cell, celled, putCell, putFree, putNext};
+ghost use Rattle.pool.specs.Setters.{cell, celled, putCell, putFree, putNext};
 ghost use Rattle.table.specs.View.{greatestCount, view, Table, IsCell, Shows};
 ghost use Rattle.cells.specs.Range.{Spare};
 use table::Shape;

@@ -8,10 +8,10 @@ use lib.ListN.{length}
 use Rattle.table.specs.declared.Shape.{Shape}
 use Rattle.erasing.specs.declared.Erasing.{Erasing}
 use Rattle.loops.specs.Loop.{choose, steps, Ends, Going}
-use Rattle.pool.specs.laws.Drop.{stepped}
-use Rattle.pool.specs.Erase.{Dropping, total, dropped}
+use Rattle.pool.specs.Erase.{Dropping, total, dropped, stepped}
 use Rattle.pool.specs.laws.Held.{Held}
 use Rattle.pool.specs.Pool.{Pool, countOf}
+use Rattle.pool.specs.Setters.{putFree, celled}
 use Rattle.pool.specs.laws.SoundLaws.{none-aside}
 use Rattle.pool.specs.Tally.{same}
 use Rattle.table.specs.View.{greatestCount, view, Table}
@@ -69,4 +69,4 @@ pub record Rooted (m : ℕ) (p : Pool) (x : ℕ) : Type 0 where
 
 -- the pool with one root at x less
 abbrev pub less : Pool → ℕ → Pool
-less p x = let z = dropped (p .free) (p .cells) x in record { free = z .free; holders = p .holders; cells = z .cells }
+less p x = let z = dropped (p .free) (p .cells) x in putFree (z .free) (celled (z .cells) p)

@@ -2,8 +2,7 @@
 ghost use mathlib.Core.Path.{_≡_};
 ghost use mathlib.Core.Logic.{_≢_};
 ghost use Prim.Native.Nat.{_≤_, _<_};
-ghost use Rattle.pool.specs.laws.Drop.{stepped};
-ghost use Rattle.pool.specs.Erase.{dropped};
+ghost use Rattle.pool.specs.Erase.{dropped, stepped};
 ghost use Rattle.pool.specs.Operations.{adv, erase};
 ghost use Rattle.pool.specs.Pool.{countOf, holder, Sound};
 ghost use Rattle.table.specs.View.{holderCount, greatestCount, view, Table, Shows};

@@ -8,6 +8,7 @@ use lib.ListN.{length}
 use Rattle.loops.specs.Loop.{Ends}
 use Rattle.pool.specs.Operations.{share, item, Made, withTwin, copy}
 use Rattle.pool.specs.Pool.{Cell, Pool, kindOf, countOf, nextOf, InPool}
+use Rattle.pool.specs.Setters.{putFree, celled}
 
 -- the cells, the head of the free chain, the first still to copy, and the first of the copy
 pub record Copying : Type 0 where
@@ -46,7 +47,7 @@ abbrev pub made : Pool → ℕ → Made
 made p x = copy (length (p .cells)) (p .free) (p .cells) x 0
 
 abbrev pub placed : Made → Pool → Pool
-placed z p = record { free = z .free; holders = p .holders; cells = z .cells }
+placed z p = putFree (z .free) (celled (z .cells) p)
 
 -- the loop ends, and what it leaves as the free chain is in range
 pub record Copies (m : ℕ) (p : Pool) (x : ℕ) : Type 0 where

@@ -4,7 +4,7 @@ ghost use mathlib.Core.Logic.{_≢_};
 ghost use Prim.Native.Nat.{_≤_, _<_};
 ghost use Rattle.pool.specs.Operations.{withTwin, cinv, lengthOf};
 ghost use Rattle.pool.specs.Pool.{holder, frees, Sound};
-ghost use Rattle.table.specs.Fields.{celled};
+ghost use Rattle.pool.specs.Setters.{celled};
 ghost use Rattle.table.specs.View.{holderCount, view, Table, Shows};
 ghost use Rattle.levels.specs.Copying.{Copyable, Copies, made, placed};
 use table::Shape;

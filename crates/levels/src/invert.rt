@@ -5,7 +5,7 @@ ghost use Prim.Native.Nat.{_<_};
 ghost use lib.ListN.{length};
 ghost use Rattle.pool.specs.Operations.{flip, inv, sharedAt};
 ghost use Rattle.pool.specs.Pool.{Sound};
-ghost use Rattle.table.specs.Fields.{celled};
+ghost use Rattle.pool.specs.Setters.{celled};
 ghost use Rattle.table.specs.View.{holderCount, view, Table, Shows};
 ghost use Rattle.levels.specs.Turning.{Turns};
 use table::Shape;

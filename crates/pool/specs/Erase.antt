@@ -15,17 +15,24 @@ pub record Dropping : Type 0 where
 -- what is done at cell x, by its count less one and its type
 unfoldable pub visit : ℕ → List Cell → ℕ → ℕ → ℕ → ℕ → ℕ → Dropping
 visit f cs x b n (suc k) t = record { free = f; cells = setCount cs x (suc k); here = 0; waiting = b; freed = n }
-visit f cs x b n zero zero = record { free = x; cells = setNext (setCount cs x 0) x f; here = nextOf cs x; waiting = b; freed = suc n }
-visit f cs x b n zero (suc t) = record { free = f; cells = setNext (setCount cs x 0) x b; here = nextOf cs x; waiting = x; freed = n }
+visit f cs x b n zero zero =
+    record { free = x; cells = setNext (setCount cs x 0) x f; here = nextOf cs x; waiting = b; freed = suc n }
+visit f cs x b n zero (suc t) =
+    record { free = f; cells = setNext (setCount cs x 0) x b; here = nextOf cs x; waiting = x; freed = n }
 
 unfoldable pub step : ℕ → List Cell → ℕ → ℕ → ℕ → Dropping
 step f cs zero zero n = record { free = f; cells = cs; here = 0; waiting = 0; freed = n }
-step f cs zero (suc j) n = record { free = suc j; cells = setNext cs (suc j) f; here = elemOf cs (suc j); waiting = nextOf cs (suc j); freed = suc n }
+step f cs zero (suc j) n =
+    let x = suc j in
+    record { free = x; cells = setNext cs x f; here = elemOf cs x; waiting = nextOf cs x; freed = suc n }
 step f cs (suc i) b n = visit f cs (suc i) b n (countOf cs (suc i) - 1) (kindOf cs (suc i))
+
+abbrev pub stepped : Dropping → Dropping
+stepped s = step (s .free) (s .cells) (s .here) (s .waiting) (s .freed)
 
 unfoldable pub run : ℕ → Dropping → Dropping
 run zero s = s
-run (suc k) s = run k (step (s .free) (s .cells) (s .here) (s .waiting) (s .freed))
+run (suc k) s = run k (stepped s)
 
 -- twice the sum of the counts is enough
 unfoldable pub total : List Cell → ℕ

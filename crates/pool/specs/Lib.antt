@@ -1,5 +1,6 @@
 pub mod Tally
 pub mod Pool
+pub mod Setters
 pub mod Erase
 pub mod Operations
 pub mod Script

@@ -44,7 +44,7 @@ countOf cs c = (at cs c) .count
 abbrev pub nextOf : List Cell → ℕ → ℕ
 nextOf cs c = (at cs c) .next
 
--- one field of a cell, and of the pool
+-- one field of a cell replaced
 abbrev pub counted : Cell → ℕ → Cell
 counted x k = record { kind = x .kind; elem = x .elem; count = k; next = x .next }
 
@@ -96,6 +96,10 @@ byNext cs d = tally (λ x. ifLive (x .count) (same (x .next) d)) cs
 unfoldable pub byElem : List Cell → ℕ → ℕ
 byElem cs d = tally (λ x. ifLive (x .count) (cond (eqb (x .kind) 1) (same (x .elem) d) 0)) cs
 
+-- all arrows of live cells to d
+abbrev pub into : List Cell → ℕ → ℕ
+into cs d = tally (sends d) cs
+
 -- one step along S, or along E of a cell of type 1; and n steps
 abbrev pub StepOf : Cell → ℕ → Type 0
 StepOf x d = (0 < x .count) × ((x .next ≡ d) ⊎ ((x .kind ≡ 1) × (x .elem ≡ d)))
@@ -106,6 +110,10 @@ Step cs c d = StepOf (at cs c) d
 unfoldable pub Walk : List Cell → ℕ → ℕ → ℕ → Type 0
 Walk cs zero c d = c ≡ d
 Walk cs (suc n) c d = (m : ℕ) × Step cs c m × Walk cs n m d
+
+-- holder h reaches cell c
+abbrev pub Reaches : Pool → ℕ → ℕ → Type 0
+Reaches p h c = (n : ℕ) × Walk (p .cells) n (holder p h) c
 
 -- the chain from c by S is the list fs, and ends in 0
 unfoldable pub Chain : List Cell → ℕ → List ℕ → Type 0
@@ -133,5 +141,6 @@ pub record Sound (p : Pool) : Type 0 where
   pub nexts : (c : ℕ) → Live (p .cells) c → NullOrLive (p .cells) (nextOf (p .cells) c)
   pub elems : (c : ℕ) → Live (p .cells) c → kindOf (p .cells) c ≡ 1 → NullOrLive (p .cells) (elemOf (p .cells) c)
   pub holds : (h : ℕ) → NullOrLive (p .cells) (holder p h)
-  pub counts : (c : ℕ) → Live (p .cells) c → countOf (p .cells) c ≡ occ (p .holders) c + byNext (p .cells) c + byElem (p .cells) c
+  pub counts : (c : ℕ) → Live (p .cells) c
+      → countOf (p .cells) c ≡ occ (p .holders) c + byNext (p .cells) c + byElem (p .cells) c
   pub acyclic : (c n : ℕ) → Live (p .cells) c → Walk (p .cells) (suc n) c c → ⊥

@@ -1,3 +1,4 @@
+pub mod TallyLaws
 pub mod Edit
 pub mod PoolLaws
 pub mod Held

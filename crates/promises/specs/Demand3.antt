@@ -7,11 +7,8 @@ use Prim.Native.Nat.{ℕ, suc, _+_, _≤_, _<_}
 use lib.ListN.{length, getD}
 use Rattle.answers.specs.Answers.{DONE, NO-ROOM}
 use Rattle.lists.specs.Lst.{Lst, extent}
-use Rattle.pool.specs.Tally.{occ}
-use Rattle.pool.specs.Pool.{Pool, countOf, holder, InPool, Walk, Chain, Sound}
-use Rattle.pool.specs.laws.Held.{into}
-use Rattle.pool.specs.laws.Number.{Number}
-use Rattle.pool.specs.laws.SoundLaws.{Reaches}
+use Rattle.pool.specs.Tally.{occ, Number}
+use Rattle.pool.specs.Pool.{Pool, countOf, holder, InPool, Walk, Chain, Sound, into, Reaches}
 use Rattle.pool.specs.Script.{ERASE, Operation}
 use Rattle.text.specs.Marks.{listIn}
 use Rattle.calls.specs.Entry.{shown}

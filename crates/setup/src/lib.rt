@@ -3,7 +3,7 @@ ghost use mathlib.Core.Path.{_≡_};
 ghost use Prim.Native.Nat.{_≤_, _<_};
 ghost use lib.ListN.{length, set};
 ghost use Rattle.pool.specs.Operations.{laid};
-ghost use Rattle.table.specs.Fields.{celled};
+ghost use Rattle.pool.specs.Setters.{celled};
 ghost use Rattle.table.specs.View.{shape, view, Table, Shows};
 ghost use Rattle.setup.specs.SetUp.{SetUp, setUp, setUpIn};
 ghost use Rattle.table.specs.declared.Form.the-variants.{Four};

@@ -2,7 +2,7 @@
 use Prim.Native.Nat.{ℕ}
 use mathlib.Core.Path.{ap}
 use borrow.Author.Needs.{needs}
-use Rattle.table.specs.Fields.{cell, putCell, putFree}
+use Rattle.pool.specs.Setters.{cell, putCell, putFree}
 use Rattle.table.specs.View.{view}
 use Rattle.table.specs.laws.ViewLaws.{after, said}
 use Rattle.cells.proofs.new_cell.Statement.{statement}

@@ -6,7 +6,7 @@ use native.Mathlib.Nat.{pos-of-ne-zero}
 use native.Mathlib.Omega.{arith}
 use borrow.Author.Needs.{needs}
 use Rattle.pool.specs.Pool.{Cell}
-use Rattle.table.specs.Fields.{celled, putCount}
+use Rattle.pool.specs.Setters.{celled, putCount}
 use Rattle.table.specs.View.{view}
 use Rattle.table.specs.laws.ViewLaws.{itself, said}
 use Rattle.cells.specs.laws.StepLaws.{share-null, share-on}

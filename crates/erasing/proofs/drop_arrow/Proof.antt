@@ -4,7 +4,7 @@ use native.Mathlib.Omega.{arith}
 use borrow.Author.Needs.{needs}
 use Rattle.erasing.specs.laws.StepLaws.{drop-shared, drop-atom, drop-list}
 use Rattle.pool.specs.Pool.{Pool}
-use Rattle.table.specs.Fields.{putNext, putFree}
+use Rattle.pool.specs.Setters.{putNext, putFree}
 use Rattle.table.specs.laws.ViewLaws.{after}
 use Rattle.erasing.proofs.drop_arrow.Statement.{statement}
 use Rattle.erasing.proofs.drop_arrow.Tie as tie

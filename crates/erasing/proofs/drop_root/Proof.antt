@@ -2,8 +2,7 @@
 use mathlib.Core.Path.{_≡_, refl, ap, sym, _∙_}
 use native.Mathlib.Nat.{pos-of-ne-zero, le-trans}
 use Rattle.loops.specs.Loop.{steps, Going, begin, before, again, less, finish}
-use Rattle.pool.specs.laws.Drop.{stepped}
-use Rattle.pool.specs.Erase.{Dropping}
+use Rattle.pool.specs.Erase.{Dropping, stepped}
 use Rattle.table.specs.View.{greatestCount, view, Table}
 use Rattle.table.specs.laws.ViewLaws.{pool-path}
 use Rattle.erasing.specs.Erasing.{halted, Fine, state, begun, most}

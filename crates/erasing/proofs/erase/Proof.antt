@@ -4,7 +4,7 @@ use mathlib.Core.Path.{ap, _∙_}
 use native.Mathlib.Omega.{arith}
 use borrow.Author.Needs.{needs}
 use Rattle.pool.specs.Erase.{dropped}
-use Rattle.table.specs.Fields.{putHolder}
+use Rattle.pool.specs.Setters.{putHolder}
 use Rattle.table.specs.View.{greatestCount, view}
 use Rattle.table.specs.laws.ViewLaws.{after, said}
 use Rattle.erasing.specs.Erasing.{less}

@@ -7,7 +7,7 @@ use Rattle.cells.specs.Range.{count-high, Head, live-head}
 use Rattle.pool.specs.laws.Bound.{count-bound}
 use Rattle.pool.specs.Operations.{share}
 use Rattle.pool.specs.Pool.{Pool, countOf}
-use Rattle.table.specs.Fields.{celled, putCount, putHolder}
+use Rattle.pool.specs.Setters.{celled, putCount, putHolder}
 use Rattle.table.specs.View.{view}
 use Rattle.table.specs.laws.ViewLaws.{after, said}
 use Rattle.erasing.specs.laws.AdvanceLaws.{is-adv, tail-fits}

@@ -7,7 +7,7 @@ use lib.ListN.{length, set}
 use Rattle.pool.specs.laws.AdvanceWays.{adv-shared, tail-less}
 use Rattle.pool.specs.Operations.{share, item, adv}
 use Rattle.pool.specs.Pool.{Pool, countOf, nextOf, setCount, holder, Sound}
-use Rattle.table.specs.Fields.{celled, putCount, putHolder}
+use Rattle.pool.specs.Setters.{celled, putCount, putHolder}
 
 -- by the numbers that the code has: the cell, its successor, its element, its count
 stores : (p : Pool) (a b x nx e n : ℕ) → x ≡ holder p a → nx ≡ nextOf (p .cells) x → e ≡ item (p .cells) x → n ≡ countOf (p .cells) x

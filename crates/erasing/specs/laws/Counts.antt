@@ -2,9 +2,9 @@
 use mathlib.Core.List.{List, [], _∷_}
 use Prim.Native.Nat.{ℕ, zero, suc, _-_, _≤_, _<_}
 use native.Mathlib.Omega.{arith}
-use Rattle.pool.specs.laws.Drop.{put-total, stepped}
+use Rattle.pool.specs.laws.Drop.{put-total}
 use Rattle.pool.specs.laws.Edit.{put-length}
-use Rattle.pool.specs.Erase.{Dropping, visit, step, total}
+use Rattle.pool.specs.Erase.{Dropping, visit, step, total, stepped}
 use Rattle.pool.specs.Pool.{Cell, at, put, kindOf, countOf, counted, followed, setCount, setNext, InPool}
 use Rattle.erasing.specs.Erasing.{Fine}
 

@@ -9,18 +9,19 @@ use lib.ListN.{length}
 use Rattle.loops.specs.Loop as kit
 use Rattle.cells.specs.Range.{free-high}
 use Rattle.pool.specs.laws.Bound.{count-bound}
-use Rattle.pool.specs.laws.Drop.{Wait, Waits, waits, items, DropInv, todo, stepped, DropInvAt, here-live, step-inv, run-step, run-stop}
+use Rattle.pool.specs.laws.Drop.{Wait, Waits, waits, items, DropInv, todo, DropInvAt, here-live, step-inv, run-step, run-stop}
 use Rattle.pool.specs.laws.Edit.{live-cell}
-use Rattle.pool.specs.Erase.{Dropping, run, dropped}
+use Rattle.pool.specs.Erase.{Dropping, run, dropped, stepped}
 use Rattle.pool.specs.laws.Held.{reroot, aside-cell}
 use Rattle.pool.specs.laws.Holders.{but, occ-take}
 use Rattle.pool.specs.Operations.{erase}
 use Rattle.pool.specs.Pool.{Cell, Pool, countOf, holder, Live, Sound}
 use Rattle.pool.specs.laws.Room.{marks-lives}
 use Rattle.pool.specs.laws.SoundLaws.{none-aside, sound-held}
-use Rattle.pool.specs.Tally.{same, same-of, tally, occ}
+use Rattle.pool.specs.Tally.{same, tally, occ}
+use Rattle.pool.specs.laws.TallyLaws.{same-of}
 use Rattle.pool.specs.laws.Visit.{at-end}
-use Rattle.table.specs.Fields.{putHolder}
+use Rattle.pool.specs.Setters.{putHolder}
 use Rattle.erasing.specs.Erasing.{halted, Fine, begun, most, Rooted, less}
 use Rattle.erasing.specs.laws.StepLaws.{halted-yes, halted-at, halted-wait}
 use Rattle.erasing.specs.laws.Counts.{step-low}

@@ -4,8 +4,7 @@ use mathlib.Core.Bool.{false}
 use Prim.Native.Nat.{ℕ}
 use native.Mathlib.Omega.{arith}
 use Rattle.loops.specs.Loop.{Ends, begin, before, again, less}
-use Rattle.pool.specs.laws.Drop.{stepped}
-use Rattle.pool.specs.Erase.{Dropping}
+use Rattle.pool.specs.Erase.{Dropping, stepped}
 use Rattle.erasing.specs.Erasing.{halted, Fine, Later}
 
 pub at-start : {m : ℕ} {w : Dropping} → Later m w w

@@ -7,11 +7,10 @@ use native.Mathlib.Omega.{arith}
 use borrow.Author.Tests.{eq-eqb, ne-eqb}
 use Rattle.table.specs.declared.Shape.{Shape}
 use Rattle.erasing.specs.declared.Erasing.{Erasing}
-use Rattle.pool.specs.laws.Drop.{stepped}
-use Rattle.pool.specs.Erase.{Dropping, visit}
+use Rattle.pool.specs.Erase.{Dropping, visit, stepped}
 use Rattle.pool.specs.Pool.{Pool, kindOf, elemOf, countOf, nextOf}
 use Rattle.pool.specs.laws.Visit.{step-at, step-pop, visit-shared, visit-atom, visit-list, dropping-path}
-use Rattle.table.specs.Fields.{putCount, putNext, putFree}
+use Rattle.pool.specs.Setters.{putCount, putNext, putFree}
 use Rattle.table.specs.View.{view, Shows}
 use Rattle.erasing.specs.Erasing.{halted, state, Does}
 

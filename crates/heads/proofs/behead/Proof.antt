@@ -4,7 +4,7 @@ use native.Mathlib.Omega.{arith}
 use borrow.Author.Needs.{needs}
 use Rattle.cells.specs.Range.{Head, live-head, ranged}
 use Rattle.heads.specs.laws.HeadLaws.{is-decap}
-use Rattle.table.specs.Fields.{putNext, putFree, putHolder}
+use Rattle.pool.specs.Setters.{putNext, putFree, putHolder}
 use Rattle.table.specs.View.{view}
 use Rattle.table.specs.laws.ViewLaws.{after, said}
 use Rattle.pool.specs.Pool.{Pool}

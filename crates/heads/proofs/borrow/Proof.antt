@@ -2,7 +2,7 @@
 use borrow.Author.Needs.{needs}
 use Rattle.cells.specs.Range.{holder-high, count-high}
 use Rattle.heads.specs.laws.HeadLaws.{is-borrow}
-use Rattle.table.specs.Fields.{putHolder}
+use Rattle.pool.specs.Setters.{putHolder}
 use Rattle.table.specs.laws.ViewLaws.{after, said}
 use Rattle.heads.proofs.borrow.Statement.{statement}
 use Rattle.heads.proofs.borrow.Tie as tie

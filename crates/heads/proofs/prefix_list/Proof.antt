@@ -3,7 +3,7 @@ use native.Mathlib.Omega.{arith}
 use borrow.Author.Needs.{needs}
 use Rattle.cells.specs.Range.{spare, holder-high}
 use Rattle.heads.specs.laws.HeadLaws.{is-pfl}
-use Rattle.table.specs.Fields.{putHolder}
+use Rattle.pool.specs.Setters.{putHolder}
 use Rattle.table.specs.laws.ViewLaws.{after, said}
 use Rattle.heads.proofs.prefix_list.Statement.{statement}
 use Rattle.heads.proofs.prefix_list.Tie as tie

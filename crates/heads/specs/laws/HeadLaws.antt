@@ -3,7 +3,7 @@ use mathlib.Core.Path.{_≡_, refl}
 use Prim.Native.Nat.{ℕ}
 use Rattle.pool.specs.Operations.{share, item, pfa, pfl, decap, borrow}
 use Rattle.pool.specs.Pool.{Pool, nextOf, holder}
-use Rattle.table.specs.Fields.{cell, celled, putCell, putCount, putNext, putFree, putHolder}
+use Rattle.pool.specs.Setters.{cell, celled, putCell, putCount, putNext, putFree, putHolder}
 
 module _ (p : Pool) (a : ℕ) where
   pub is-pfa : (v x y : ℕ) → y ≡ holder p a → x ≡ p .free → putHolder a x (putCell x (cell 0 v 1 y) (putFree (nextOf (p .cells) x) p)) ≡ pfa p a v

@@ -14,7 +14,8 @@ use Rattle.pool.specs.laws.Level.{Left, Onward, onward, none-left, all-left}
 use Rattle.pool.specs.Operations.{span, lengthOf}
 use Rattle.pool.specs.Pool.{Pool, nextOf, holder, InPool, Chain, frees, Sound}
 use Rattle.pool.specs.laws.Room.{frees-lives}
-use Rattle.pool.specs.Tally.{same-of, tally, occ}
+use Rattle.pool.specs.Tally.{tally, occ}
+use Rattle.pool.specs.laws.TallyLaws.{same-of}
 
 -- the walk stands at x, and the free chain at f
 pub record Beside (p : Pool) (a x f : ℕ) : Type 0 where

@@ -24,8 +24,9 @@ use Rattle.pool.specs.Pool.{Cell, blank, Pool, kindOf, elemOf, countOf, nextOf,
 use Rattle.pool.specs.laws.Reach.{elem-ok, len-le}
 use Rattle.pool.specs.laws.Room.{room, frees-lives}
 use Rattle.pool.specs.laws.SoundLaws.{none-aside, sound-held, denoted}
-use Rattle.pool.specs.Tally.{same, same-ne, same-le, occ}
-use Rattle.table.specs.Fields.{cell, celled, putCell, putHolder}
+use Rattle.pool.specs.Tally.{same, occ}
+use Rattle.pool.specs.laws.TallyLaws.{same-ne, same-le}
+use Rattle.pool.specs.Setters.{cell, celled, putCell, putHolder}
 use Rattle.levels.specs.Copying.{copying, over, moved, told, Copyable, Sure, made, placed, Copies}
 
 -- one more arrow to a cell changes no successor

@@ -13,7 +13,7 @@ use Rattle.pool.specs.Pool.{Pool, holder, InPool, Sound}
 use Rattle.pool.specs.laws.Reach.{len-le}
 use Rattle.pool.specs.laws.SoundLaws.{none-aside, sound-held, denoted}
 use Rattle.pool.specs.Tally.{occ}
-use Rattle.table.specs.Fields.{putNext, putHolder}
+use Rattle.pool.specs.Setters.{putNext, putHolder}
 use Rattle.table.specs.laws.ViewLaws.{pool-path}
 
 module _ (p : Pool) (a b : ℕ) where

@@ -22,8 +22,9 @@ use Rattle.pool.specs.Operations.{flip, inv, sharedAt}
 use Rattle.pool.specs.Pool.{Cell, Pool, at, countOf, nextOf, setCount, setNext, holder, Live, ListAt, gives, Sound}
 use Rattle.pool.specs.laws.Reach.{len-le}
 use Rattle.pool.specs.laws.SoundLaws.{none-aside, sound-held, denoted}
-use Rattle.pool.specs.Tally.{same, same-eq, same-ne, occ}
-use Rattle.table.specs.Fields.{celled, putHolder}
+use Rattle.pool.specs.Tally.{same, occ}
+use Rattle.pool.specs.laws.TallyLaws.{same-eq, same-ne}
+use Rattle.pool.specs.Setters.{celled, putHolder}
 use Rattle.levels.specs.Turning.{Turning, turning, over, moved, Sure, Turns}
 
 root-top : (f : ℕ) (cs : List Cell) (r : ℕ → ℕ) (c : ℕ) → Held f cs r none-aside → (c ≢ 0 → 0 < r c) → c ≤ length cs

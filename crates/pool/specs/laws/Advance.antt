@@ -7,7 +7,8 @@ use native.Mathlib.Decide.{ℕ-discrete}
 use native.Mathlib.Omega.{arith}
 use lib.ListN.{length, getD}
 use Rattle.lists.specs.Lst.{Lst, atom, list}
-use Rattle.pool.specs.Tally.{same, same-ne, occ}
+use Rattle.pool.specs.Tally.{same, occ}
+use Rattle.pool.specs.laws.TallyLaws.{same-ne}
 use Rattle.pool.specs.Pool.{Cell, Pool, kindOf, elemOf, nextOf, holder, Live, NullOrLive, ListAt, Sound}
 use Rattle.pool.specs.Erase.{Dropping, dropped}
 use Rattle.pool.specs.Operations.{share, item, adv}

@@ -6,7 +6,8 @@ use mathlib.Core.List.{List}
 use Prim.Native.Nat.{ℕ, zero, suc, _+_, _*_, _-_, _<_}
 use native.Mathlib.Omega.{arith}
 use lib.ListN.{length, set, length-set}
-use Rattle.pool.specs.Tally.{same, same-eq, same-ne, occ}
+use Rattle.pool.specs.Tally.{same, occ}
+use Rattle.pool.specs.laws.TallyLaws.{same-eq, same-ne}
 use Rattle.pool.specs.Pool.{Cell, Pool, at, put, kindOf, elemOf, countOf, nextOf, counted, followed, setCount, setNext, holder, Live, NullOrLive, InPool, Walk, Sound}
 use Rattle.pool.specs.Erase.{Dropping, visit, step}
 use Rattle.pool.specs.Operations.{share, item, decap, adv}

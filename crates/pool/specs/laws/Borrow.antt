@@ -6,7 +6,8 @@ use native.Mathlib.Omega.{arith}
 use lib.ListN.{length, set}
 use lib.Seq.{getD-set-same, getD-set-other}
 use Rattle.lists.specs.Lst.{Lst}
-use Rattle.pool.specs.Tally.{same, same-ne, occ}
+use Rattle.pool.specs.Tally.{same, occ}
+use Rattle.pool.specs.laws.TallyLaws.{same-ne}
 use Rattle.pool.specs.Pool.{Pool, holder, ListAt, Sound}
 use Rattle.pool.specs.Operations.{share, borrow}
 use Rattle.pool.specs.laws.Frame.{ListAt-grown}

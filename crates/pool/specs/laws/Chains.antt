@@ -5,7 +5,8 @@ use Prim.Native.Nat.{ℕ, zero, suc, _+_, _≤_, _<_}
 use native.Mathlib.Decide.{ℕ-discrete}
 use native.Mathlib.Omega.{arith}
 use lib.ListN.{length}
-use Rattle.pool.specs.Tally.{Same, eq, ne, same?, tally, occ}
+use Rattle.pool.specs.Tally.{tally, occ}
+use Rattle.pool.specs.laws.TallyLaws.{Same, eq, ne, same?}
 use Rattle.pool.specs.Pool.{Cell, Pool, nextOf, Chain, mark, lives, Sound}
 use Rattle.pool.specs.laws.Edit.{mark-past}
 use Rattle.pool.specs.laws.Reach.{upto, upto-occ}

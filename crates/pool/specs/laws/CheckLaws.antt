@@ -8,7 +8,8 @@ use native.Mathlib.Omega.{arith}
 use lib.Dec.{eqb, leb}
 use lib.ListN.{length}
 use borrow.Author.Tests.{eqb-true, eq-eqb, leb-true, le-leb}
-use Rattle.pool.specs.Tally.{same, same-of, Same, eq, ne, same?, tally, occ}
+use Rattle.pool.specs.Tally.{same, tally, occ}
+use Rattle.pool.specs.laws.TallyLaws.{same-of, Same, eq, ne, same?}
 use Rattle.pool.specs.Pool.{Cell, Pool, at, countOf, nextOf, Chain, mark, frees, Sound}
 use Rattle.pool.specs.Check.{Peeling, lowered, meet, arrow, taken, pop, popped, turns, named, unmet, afterHolders, chained, peeled?, check}
 use Rattle.pool.specs.laws.Edit.{mark-past}

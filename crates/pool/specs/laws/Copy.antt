@@ -7,7 +7,8 @@ use native.Mathlib.Omega.{arith}
 use lib.ListN.{length, set}
 use lib.Seq.{getD-set-same, getD-set-other}
 use Rattle.lists.specs.Lst.{Lst, nil, atom, list, len, onto, reversed}
-use Rattle.pool.specs.Tally.{same, same-ne, occ}
+use Rattle.pool.specs.Tally.{same, occ}
+use Rattle.pool.specs.laws.TallyLaws.{same-ne}
 use Rattle.pool.specs.Pool.{Cell, Pool, at, put, elemOf, countOf, nextOf, counted, holder, Live, NullOrLive, ListAt, lives, Sound}
 use Rattle.pool.specs.Operations.{share, item, Made, twin, withTwin, copy, cinv}
 use Rattle.pool.specs.laws.Edit.{put-length, live-cell}

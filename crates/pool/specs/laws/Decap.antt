@@ -7,7 +7,8 @@ use native.Mathlib.Decide.{ℕ-discrete}
 use native.Mathlib.Omega.{arith}
 use lib.ListN.{length, getD}
 use Rattle.lists.specs.Lst.{Lst, atom, list}
-use Rattle.pool.specs.Tally.{same, same-ne, occ}
+use Rattle.pool.specs.Tally.{same, occ}
+use Rattle.pool.specs.laws.TallyLaws.{same-ne}
 use Rattle.pool.specs.Pool.{Cell, Pool, at, kindOf, elemOf, countOf, nextOf, setCount, setNext, holder, ListAt, gives, Sound}
 use Rattle.pool.specs.Operations.{itemOf, item, decap}
 use Rattle.pool.specs.laws.Held.{gives-atom, gives-list}

@@ -6,9 +6,10 @@ use Prim.Native.Nat.{ℕ, zero, suc, _+_, _-_, _≤_, _<_}
 use native.Mathlib.Decide.{ℕ-discrete}
 use native.Mathlib.Omega.{arith}
 use lib.ListN.{length}
-use Rattle.pool.specs.Tally.{same, same-eq, same-ne, same-of, same-le, tally}
+use Rattle.pool.specs.Tally.{same, tally}
+use Rattle.pool.specs.laws.TallyLaws.{same-eq, same-ne, same-of, same-le}
 use Rattle.pool.specs.Pool.{Cell, at, put, kindOf, elemOf, countOf, nextOf, counted, followed, setCount, setNext, Live, InPool, lives}
-use Rattle.pool.specs.Erase.{Dropping, visit, step, run, total, dropped}
+use Rattle.pool.specs.Erase.{Dropping, visit, step, stepped, run, total, dropped}
 use Rattle.pool.specs.laws.Edit.{put-length, put-same, put-other, put-tally, live-cell, mark-cell}
 use Rattle.pool.specs.laws.Held.{Held, reroot, ifLive-pos, ifLive-zero, gives-atom, gives-list, root-live, lower, unlock, aside-cell, refit, shelve}
 use Rattle.pool.specs.laws.Frame.{Kept, Kept-trans, put-cases, kept-count, kept-free, put-lives}
@@ -67,9 +68,6 @@ elsewhere cs x w y z n = fields cs (put (put cs x y) x z) w (put-other (put cs x
 
 abbrev pub todo : Dropping → List Wait → ℕ
 todo s ws = total (s .cells) + total (s .cells) + length ws
-
-abbrev pub stepped : Dropping → Dropping
-stepped s = step (s .free) (s .cells) (s .here) (s .waiting) (s .freed)
 
 abbrev pub stopped : Dropping → Dropping
 stopped s = record { free = s .free; cells = s .cells; here = 0; waiting = 0; freed = s .freed }

@@ -8,7 +8,8 @@ use native.Mathlib.Decide.{ℕ-discrete}
 use native.Mathlib.Omega.{arith}
 use lib.ListN.{length, length-set, List·getD-eq-default}
 use lib.Seq.{getD-set-same, getD-set-other, set-set, set-comm, set-getD}
-use Rattle.pool.specs.Tally.{same, tally, tally-set, tally-ge, tally-find}
+use Rattle.pool.specs.Tally.{same, tally}
+use Rattle.pool.specs.laws.TallyLaws.{tally-set, tally-ge, tally-find}
 use Rattle.pool.specs.Pool.{Cell, blank, at, put, Live, InPool, mark}
 
 pub put-length : (cs : List Cell) (c : ℕ) (y : Cell) → length (put cs c y) ≡ length cs

@@ -8,15 +8,16 @@ use native.Mathlib.Omega.{arith}
 use lib.ListN.{length, getD, set, List·getD-eq-default}
 use lib.Seq.{getD-set-same, getD-set-other, set-out}
 use Rattle.lists.specs.Lst.{Lst}
-use Rattle.pool.specs.Tally.{same, same-ne, tally-set, occ}
-use Rattle.pool.specs.Pool.{Pool, holder, Live, NullOrLive, ListAt, Walk, Sound}
+use Rattle.pool.specs.Tally.{same, occ, Number}
+use Rattle.pool.specs.laws.TallyLaws.{same-ne, tally-set}
+use Rattle.pool.specs.Pool.{Pool, holder, Live, NullOrLive, ListAt, Walk, Sound, Reaches}
 use Rattle.pool.specs.Erase.{Dropping, dropped}
 use Rattle.pool.specs.Operations.{erase}
 use Rattle.pool.specs.laws.Held.{reroot, Walk-map}
 use Rattle.pool.specs.laws.Frame.{Kept, ListAt-kept, step-kept, walk-kept}
-use Rattle.pool.specs.laws.Number.{Number, Number-map, number-freed}
+use Rattle.pool.specs.laws.Number.{Number-map, number-freed}
 use Rattle.pool.specs.laws.Drop.{Dropped, drops}
-use Rattle.pool.specs.laws.SoundLaws.{none-aside, sound-held, held-sound, Reaches, live-reached, reached-live}
+use Rattle.pool.specs.laws.SoundLaws.{none-aside, sound-held, held-sound, live-reached, reached-live}
 
 pub record Erases (p : Pool) (h : ℕ) (q : Pool) (n : ℕ) : Type 0 where
   pub sound : Sound q

@@ -6,11 +6,12 @@ use Prim.Native.Nat.{ℕ, zero, suc, _+_, _≤_, _<_}
 use native.Mathlib.Decide.{ℕ-discrete}
 use native.Mathlib.Omega.{arith}
 use lib.ListN.{length, replicate, getD, length-replicate}
-use Rattle.pool.specs.Tally.{same-ne, same-of, Same, eq, ne, same?, tally, occ}
-use Rattle.pool.specs.Pool.{at, countOf, nextOf, holder, ifLive, sends, Walk, Chain, mark, lives, frees, Sound}
+use Rattle.pool.specs.Tally.{tally, occ}
+use Rattle.pool.specs.laws.TallyLaws.{same-ne, same-of, Same, eq, ne, same?}
+use Rattle.pool.specs.Pool.{at, countOf, nextOf, holder, ifLive, sends, Walk, Chain, mark, lives, frees, Sound, into}
 use Rattle.pool.specs.Operations.{laid, fresh}
 use Rattle.pool.specs.laws.Edit.{find-tally, mark-cell, mark-past}
-use Rattle.pool.specs.laws.Held.{into, sends-free}
+use Rattle.pool.specs.laws.Held.{sends-free}
 use Rattle.pool.specs.laws.SoundLaws.{held-sound}
 use Rattle.pool.specs.laws.Room.{frees-lives}
 

@@ -10,16 +10,13 @@ use native.Mathlib.Omega.{arith}
 use lib.Dec.{eqb}
 use lib.ListN.{length}
 use Rattle.lists.specs.Lst.{len}
-use Rattle.pool.specs.Tally.{same, same-eq, same-ne, same-of, Same, eq, ne, same?, same-le, tally, occ}
-use Rattle.pool.specs.Pool.{Cell, blank, at, put, kindOf, countOf, nextOf, counted, followed, setCount, setNext, Live, InPool, ifLive, gives, sends, StepOf, Step, Walk, Chain, mark}
+use Rattle.pool.specs.Tally.{same, tally, occ}
+use Rattle.pool.specs.laws.TallyLaws.{same-eq, same-ne, same-of, Same, eq, ne, same?, same-le}
+use Rattle.pool.specs.Pool.{Cell, blank, at, put, kindOf, countOf, nextOf, counted, followed, setCount, setNext, Live, InPool, ifLive, gives, sends, into, StepOf, Step, Walk, Chain, mark}
 use Rattle.pool.specs.laws.Edit.{put-length, put-same, put-other, put-tally, at-tally, live-cell, mark-cell, mark-past, mark-other}
 
 abbrev pub Acyclic : List Cell → Type 0
 Acyclic cs = (c n : ℕ) → Walk cs (suc n) c c → ⊥
-
--- the arrows that end at d and start at a cell
-abbrev pub into : List Cell → ℕ → ℕ
-into cs d = tally (sends d) cs
 
 -- every count is that of the arrows: so what no cell is, or is free, is named by nothing
 abbrev pub Law : List Cell → (ℕ → ℕ) → Type 0

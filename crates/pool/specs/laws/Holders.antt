@@ -7,7 +7,8 @@ use native.Mathlib.Decide.{ℕ-discrete}
 use native.Mathlib.Omega.{arith}
 use lib.ListN.{length, getD, set, length-set}
 use lib.Seq.{getD-set-same, getD-set-other}
-use Rattle.pool.specs.Tally.{same, same-eq, same-ne, tally-set, tally-ge, occ}
+use Rattle.pool.specs.Tally.{same, occ}
+use Rattle.pool.specs.laws.TallyLaws.{same-eq, same-ne, tally-set, tally-ge}
 
 -- the roots but for holder a
 abbrev pub but : List ℕ → ℕ → ℕ → ℕ

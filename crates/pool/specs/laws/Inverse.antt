@@ -8,7 +8,8 @@ use native.Mathlib.Omega.{arith}
 use lib.ListN.{length, set}
 use lib.Seq.{getD-set-same, getD-set-other}
 use Rattle.lists.specs.Lst.{Lst, nil, atom, list, len, onto, reversed}
-use Rattle.pool.specs.Tally.{same, same-eq, same-ne, occ}
+use Rattle.pool.specs.Tally.{same, occ}
+use Rattle.pool.specs.laws.TallyLaws.{same-eq, same-ne}
 use Rattle.pool.specs.Pool.{Cell, Pool, at, put, elemOf, countOf, nextOf, counted, followed, setCount, setNext, holder, Live, NullOrLive, InPool, ListAt, gives, Sound}
 use Rattle.pool.specs.Operations.{flip, inv}
 use Rattle.pool.specs.laws.Edit.{put-same, put-other, live-cell, put-put}

@@ -10,7 +10,8 @@ use lib.Dec.{eqb}
 use lib.ListN.{length, set}
 use Rattle.lists.specs.Lst.{Lst, nil, atom, list, len, joined}
 use Rattle.lists.specs.laws.LstLaws.{joined-nil}
-use Rattle.pool.specs.Tally.{same, same-eq, same-ne, occ}
+use Rattle.pool.specs.Tally.{same, occ}
+use Rattle.pool.specs.laws.TallyLaws.{same-eq, same-ne}
 use Rattle.pool.specs.Pool.{Cell, Pool, at, put, elemOf, countOf, nextOf, counted, followed, setCount, setNext, holder, Live, NullOrLive, InPool, ListAt, gives, Sound}
 use Rattle.pool.specs.Operations.{lastOf, concAt, conc}
 use Rattle.pool.specs.laws.Edit.{put-same, put-other, live-cell, put-put, put-comm, put-at}

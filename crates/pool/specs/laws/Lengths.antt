@@ -4,11 +4,10 @@ use mathlib.Core.List.{List}
 use Prim.Native.Nat.{ℕ, zero, suc, _+_, _-_}
 use lib.ListN.{length, set, length-set}
 use Rattle.pool.specs.Pool.{Cell, Pool, at, kindOf, countOf, nextOf, counted, followed, setCount, setNext, holder}
-use Rattle.pool.specs.Erase.{Dropping, visit, step, run, total, dropped}
+use Rattle.pool.specs.Erase.{Dropping, visit, step, run, total, dropped, stepped}
 use Rattle.pool.specs.Operations.{share, item, pfa, pfl, decap, adv, borrow, erase, flip, inv, twin, withTwin, copy, cinv, lastOf, concAt, conc}
 use Rattle.pool.specs.Script.{Operation, effect}
 use Rattle.pool.specs.laws.Edit.{put-length}
-use Rattle.pool.specs.laws.Drop.{stepped}
 use Rattle.pool.specs.laws.ShareLaws.{share-length}
 use Rattle.pool.specs.laws.ByCode.{by-code}
 

@@ -7,7 +7,8 @@ use native.Mathlib.Omega.{arith}
 use lib.ListN.{length, set}
 use lib.Seq.{getD-set-same, getD-set-other}
 use Rattle.lists.specs.Lst.{Lst, nil, atom, list, extent}
-use Rattle.pool.specs.Tally.{same, same-eq, same-ne, occ}
+use Rattle.pool.specs.Tally.{same, occ}
+use Rattle.pool.specs.laws.TallyLaws.{same-eq, same-ne}
 use Rattle.pool.specs.Pool.{Cell, Pool, at, put, countOf, nextOf, counted, holder, Live, ListAt, gives, lives, Sound}
 use Rattle.pool.specs.Operations.{Made, load, read}
 use Rattle.pool.specs.laws.Edit.{put-length, put-same}

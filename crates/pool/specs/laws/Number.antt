@@ -7,17 +7,11 @@ use native.Mathlib.Decide.{ℕ-discrete}
 use native.Mathlib.Omega.{arith}
 use lib.ListN.{length}
 use Rattle.lists.specs.Lst.{len}
-use Rattle.pool.specs.Tally.{tally}
+use Rattle.pool.specs.Tally.{tally, Number, start, hit, miss}
 use Rattle.pool.specs.Pool.{Cell, at, countOf, Live, ifLive, lives}
 use Rattle.pool.specs.laws.Held.{ifLive-pos, ifLive-zero}
 use Rattle.pool.specs.laws.Reach.{upto}
 use Rattle.pool.specs.laws.Frame.{Kept}
-
--- of the numbers 1 to k, n have the property P
-pub data Number (P : ℕ → Type 0) : ℕ → ℕ → Type 0 where
-  start : Number P 0 0
-  hit : {k n : ℕ} → P (suc k) → Number P k n → Number P (suc k) (suc n)
-  miss : {k n : ℕ} → (P (suc k) → ⊥) → Number P k n → Number P (suc k) n
 
 pub Number-map : (P Q : ℕ → Type 0) → ((c : ℕ) → c ≢ 0 → P c → Q c) → ((c : ℕ) → c ≢ 0 → Q c → P c) → {k n : ℕ} → Number P k n → Number Q k n
 Number-map P Q f g start = start

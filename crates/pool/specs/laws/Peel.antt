@@ -7,7 +7,8 @@ use Prim.Native.Nat.{ℕ, suc, _+_, _<_}
 use native.Mathlib.Decide.{ℕ-discrete}
 use native.Mathlib.Omega.{arith}
 use Rattle.lists.specs.Lst.{len}
-use Rattle.pool.specs.Tally.{same, same-eq, same-ne}
+use Rattle.pool.specs.Tally.{same}
+use Rattle.pool.specs.laws.TallyLaws.{same-eq, same-ne}
 use Rattle.pool.specs.Pool.{Cell, at, put, countOf, counted, setCount, Live, InPool, gives, sends, StepOf, Step, Walk}
 use Rattle.pool.specs.laws.Edit.{put-length, live-cell, put-put, put-at}
 use Rattle.pool.specs.laws.Held.{Acyclic, Law, Walk-map, sends-live, sends-free, gives-counted, step-into, put-acyclic, source-acyclic, put-law}

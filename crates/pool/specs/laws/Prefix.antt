@@ -6,7 +6,8 @@ use native.Mathlib.Omega.{arith}
 use lib.ListN.{length, getD, set}
 use lib.Seq.{getD-set-same, getD-set-other}
 use Rattle.lists.specs.Lst.{Lst, atom, list}
-use Rattle.pool.specs.Tally.{same-ne, occ}
+use Rattle.pool.specs.Tally.{occ}
+use Rattle.pool.specs.laws.TallyLaws.{same-ne}
 use Rattle.pool.specs.Pool.{Cell, Pool, put, holder, ListAt, Sound}
 use Rattle.pool.specs.Operations.{pfa, pfl}
 use Rattle.pool.specs.laws.Held.{gives-atom, gives-list}

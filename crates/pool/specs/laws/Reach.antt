@@ -11,11 +11,12 @@ use lib.Dec.{eqb, eqb→eq, T}
 use lib.ListN.{length}
 use Rattle.lists.specs.Lst.{Lst, nil, atom, list, len, path}
 use Rattle.lists.specs.laws.LstLaws.{len-path}
-use Rattle.pool.specs.Tally.{same, same-eq, same-ne, Same, eq, ne, same?, same-pos, tally, occ}
-use Rattle.pool.specs.Pool.{Cell, at, kindOf, elemOf, countOf, nextOf, Live, NullOrLive, ListAt, gives, sends, StepOf, Step, Walk}
+use Rattle.pool.specs.Tally.{same, tally, occ}
+use Rattle.pool.specs.laws.TallyLaws.{same-eq, same-ne, Same, eq, ne, same?, same-pos}
+use Rattle.pool.specs.Pool.{Cell, at, kindOf, elemOf, countOf, nextOf, Live, NullOrLive, ListAt, gives, sends, StepOf, Step, Walk, into}
 use Rattle.pool.specs.Operations.{item, listFrom}
 use Rattle.pool.specs.laws.Edit.{find-tally, live-cell}
-use Rattle.pool.specs.laws.Held.{Acyclic, into, Law, Held, Walk-snoc, sends-live, sends-free, step-live}
+use Rattle.pool.specs.laws.Held.{Acyclic, Law, Held, Walk-snoc, sends-live, sends-free, step-live}
 
 -- pigeons: a list with no number twice and all of them from 1 to n is no longer than n
 

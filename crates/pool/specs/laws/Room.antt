@@ -6,7 +6,8 @@ use Prim.Native.Nat.{ℕ, zero, suc, _+_, _≤_, _<_}
 use native.Mathlib.Decide.{ℕ-discrete}
 use native.Mathlib.Omega.{arith}
 use lib.ListN.{length}
-use Rattle.pool.specs.Tally.{same, same-eq, same-ne, same-of, same-pos, tally, occ}
+use Rattle.pool.specs.Tally.{same, tally, occ}
+use Rattle.pool.specs.laws.TallyLaws.{same-eq, same-ne, same-of, same-pos}
 use Rattle.pool.specs.Pool.{Cell, countOf, Chain, mark, lives, frees}
 use Rattle.pool.specs.laws.Edit.{mark-cell}
 use Rattle.pool.specs.laws.Held.{Held, ifLive-pos, ifLive-zero}

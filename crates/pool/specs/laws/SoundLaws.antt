@@ -9,10 +9,11 @@ use native.Mathlib.Omega.{arith}
 use lib.Dec.{eqb}
 use lib.ListN.{length}
 use Rattle.lists.specs.Lst.{Lst}
-use Rattle.pool.specs.Tally.{same, same-eq, same-ne, same-pos, tally, tally-ge, tally-find, occ}
-use Rattle.pool.specs.Pool.{Cell, Pool, kindOf, elemOf, countOf, nextOf, holder, Live, NullOrLive, ListAt, ifLive, gives, sends, byNext, byElem, Walk, Sound}
+use Rattle.pool.specs.Tally.{same, tally, occ}
+use Rattle.pool.specs.laws.TallyLaws.{same-eq, same-ne, same-pos, tally-ge, tally-find}
+use Rattle.pool.specs.Pool.{Cell, Pool, kindOf, elemOf, countOf, nextOf, holder, Live, NullOrLive, ListAt, ifLive, gives, sends, byNext, byElem, Walk, Reaches, Sound, into}
 use Rattle.pool.specs.laws.Edit.{live-cell}
-use Rattle.pool.specs.laws.Held.{into, Held, ifLive-pos, ifLive-zero, root-live}
+use Rattle.pool.specs.laws.Held.{Held, ifLive-pos, ifLive-zero, root-live}
 use Rattle.pool.specs.laws.Reach.{into-step, next-ok, elem-ok, rooted, list-of}
 
 abbrev pub none-aside : ℕ → ℕ
@@ -97,9 +98,6 @@ pub denoted : (p : Pool) → Sound p → (h : ℕ) → (l : Lst) × ListAt (p .c
 denoted p s h = list-of (p .free) (p .cells) (occ (p .holders)) none-aside (sound-held p s) (holder p h) (s .holds h)
 
 -- a cell is live exactly if some holder reaches it
-
-abbrev pub Reaches : Pool → ℕ → ℕ → Type 0
-Reaches p h c = (n : ℕ) × Walk (p .cells) n (holder p h) c
 
 pub live-reached : (p : Pool) → Sound p → (c : ℕ) → Live (p .cells) c → (h : ℕ) × (h < length (p .holders)) × Reaches p h c
 live-reached p s c l =

@@ -4,7 +4,8 @@ use mathlib.Core.Logic.{_≢_, inl, inr}
 use mathlib.Core.List.{List}
 use Prim.Native.Nat.{ℕ, zero, suc, _+_, _≤_, _<_}
 use native.Mathlib.Omega.{arith}
-use Rattle.pool.specs.Tally.{same, same-eq, same-ne}
+use Rattle.pool.specs.Tally.{same}
+use Rattle.pool.specs.laws.TallyLaws.{same-eq, same-ne}
 use Rattle.pool.specs.Pool.{Cell, at, put, countOf, nextOf, counted, followed, setCount, setNext, Live, NullOrLive, InPool, gives}
 use Rattle.pool.specs.Operations.{share}
 use Rattle.pool.specs.laws.Edit.{put-same, live-cell}

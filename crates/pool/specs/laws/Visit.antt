@@ -7,9 +7,9 @@ use native.Mathlib.Nat.{zero-add}
 use native.Mathlib.Omega.{arith}
 use Rattle.pool.specs.Tally.{same}
 use Rattle.pool.specs.Pool.{Cell, kindOf, elemOf, countOf, nextOf, setCount, setNext}
-use Rattle.pool.specs.Erase.{Dropping, visit, step, run, total, dropped}
+use Rattle.pool.specs.Erase.{Dropping, visit, step, run, total, dropped, stepped}
 use Rattle.pool.specs.laws.Held.{Held}
-use Rattle.pool.specs.laws.Drop.{stepped, stopped, dropped-done, run-step, run-stop}
+use Rattle.pool.specs.laws.Drop.{stopped, dropped-done, run-step, run-stop}
 
 pub step-at : (f : ℕ) (cs : List Cell) (x b n : ℕ) → 1 ≤ x → step f cs x b n ≡ visit f cs x b n (countOf cs x - 1) (kindOf cs x)
 unfolding step

@@ -7,7 +7,8 @@ use native.Mathlib.Decide.{ℕ-discrete}
 use native.Mathlib.Omega.{arith}
 use lib.ListN.{length, set}
 use package.borrow.Author.Tests.{not-false, eqb-true, eqb-false, ltb-false}
-use Rattle.pool.specs.Tally.{same, same-of, same-ne, tally, occ}
+use Rattle.pool.specs.Tally.{same, tally, occ}
+use Rattle.pool.specs.laws.TallyLaws.{same-of, same-ne}
 use Rattle.pool.specs.Pool.{Cell, Pool, at, nextOf, counted, followed, setCount, setNext, holder, Live, Chain, frees, Sound}
 use Rattle.pool.specs.laws.Edit.{put-length, put-same, put-other, live-cell}
 use Rattle.pool.specs.laws.Held.{reroot}

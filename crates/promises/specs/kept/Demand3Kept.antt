@@ -12,7 +12,7 @@ use Rattle.pool.specs.Pool.{Pool, Live, lives, frees, Sound}
 use Rattle.pool.specs.Operations.{erase}
 use Rattle.pool.specs.laws.EraseLaws.{erases}
 use Rattle.pool.specs.Script.{ERASE, Operation, Effect, effect, refusal}
-use Rattle.pool.specs.laws.Number.{Number}
+use Rattle.pool.specs.Tally.{Number}
 use Rattle.pool.specs.laws.Room.{frees-lives}
 use Rattle.pool.specs.laws.SoundLaws.{sound-held, denoted}
 use Rattle.text.specs.Marks.{listIn}

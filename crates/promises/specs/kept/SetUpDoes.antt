@@ -12,7 +12,8 @@ use Rattle.pool.specs.laws.Fresh.{fresh-holders, fresh-cells, fresh-null, fresh
 use Rattle.table.specs.Limits.{packs, holdersMost}
 use Rattle.table.specs.laws.Fitting.{sound-fits}
 use Rattle.setup.specs.laws.SetUpLaws.{tells}
-use Rattle.table.specs.Fields.{field, cell}
+use Rattle.table.specs.Fields.{field}
+use Rattle.pool.specs.Setters.{cell}
 use Rattle.table.specs.laws.SizesLaws.{Fits, fits-told, holds}
 use Rattle.table.specs.Tab.{getD-tab}
 use Rattle.table.specs.View.{shape, view, words, Table}

@@ -6,13 +6,14 @@ use Prim.Native.Nat.{ℕ, suc}
 use native.Mathlib.Decide.{ℕ-discrete}
 use native.Mathlib.Omega.{arith}
 use lib.ListN.{length}
-use Rattle.pool.specs.Tally.{occ, same-of, same-pos}
+use Rattle.pool.specs.Tally.{occ, Number, start, hit, miss}
+use Rattle.pool.specs.laws.TallyLaws.{same-of, same-pos}
 use Rattle.pool.specs.Pool.{Pool, countOf, Live, InPool, mark, lives, Sound}
 use Rattle.pool.specs.Operations.{erase}
 use Rattle.pool.specs.laws.EraseLaws.{erases}
 use Rattle.pool.specs.laws.Edit.{mark-cell, mark-past}
 use Rattle.pool.specs.laws.Chains.{Chain-unique}
-use Rattle.pool.specs.laws.Number.{Number, start, hit, miss, Number-map, number-live}
+use Rattle.pool.specs.laws.Number.{Number-map, number-live}
 use Rattle.pool.specs.laws.SoundLaws.{live-reached, reached-live}
 use Rattle.promises.specs.Demand3.{Free, Used, OnlyBy}
 

@@ -10,7 +10,8 @@ use lib.ListN.{length, replicate, take, length-append, length-replicate}
 use lib.Seq.{take-at}
 use borrow.Author.Tests.{eqb-true, eqb-false}
 use Rattle.answers.specs.Answers.{NOT-A-LIST}
-use Rattle.pool.specs.Tally.{same, same-ne, tally, occ}
+use Rattle.pool.specs.Tally.{same, tally, occ}
+use Rattle.pool.specs.laws.TallyLaws.{same-ne}
 use Rattle.text.specs.Limits.{recordBytes}
 use Rattle.text.specs.ListText.{headDigit, bare}
 use Rattle.text.specs.Text.{Phase, atStart, afterOpen, afterComma, inAtom, afterElement, afterAll, Scan, place, Step, mark, fault, State, at, taken, begin, stepOf, settle, run, isOver, done, verdict}

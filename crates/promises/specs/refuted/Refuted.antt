@@ -9,7 +9,7 @@ use lib.ListN.{length, getD, replicate}
 use Rattle.answers.specs.Answers.{DONE, TABLE-SIZE}
 use Rattle.lists.specs.Lst.{Lst, nil, atom}
 use Rattle.pool.specs.laws.Fresh.{zero-at}
-use Rattle.pool.specs.laws.Number.{Number, start, hit, miss}
+use Rattle.pool.specs.Tally.{Number, start, hit, miss}
 use Rattle.pool.specs.Pool.{Cell, Pool, countOf, holder, ListAt, Walk}
 use Rattle.pool.specs.Script.{PFA, LENGTH, Operation}
 use Rattle.table.specs.Limits.{holdersMost}

@@ -7,7 +7,8 @@ use Prim.Native.Nat.{ℕ, zero, suc}
 use native.Mathlib.Omega.{arith}
 use lib.ListN.{getD, replicate}
 use Rattle.lists.specs.Lst.{nil, atom, list, extent, order, reversed, onto}
-use Rattle.pool.specs.Tally.{same, tally, tally-ge, tally-append, occ}
+use Rattle.pool.specs.Tally.{same, tally, occ}
+use Rattle.pool.specs.laws.TallyLaws.{tally-ge, tally-append}
 use Rattle.pool.specs.Pool.{ListAt}
 use Rattle.pool.specs.Check.{check}
 use Rattle.pool.specs.laws.PoolLaws.{ListAt-unique}

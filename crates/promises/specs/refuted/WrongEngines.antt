@@ -7,8 +7,7 @@ use lib.Dec.{eqb, ltb}
 use lib.ListN.{length, getD, set, take, replicate}
 use Rattle.answers.specs.Answers.{DONE, TABLE-SIZE, WORK-SPACE, SCRIPT, RESULTS, UNSOUND, SAME, SHARED, NO-ROOM}
 use Rattle.pool.specs.Tally.{occ}
-use Rattle.pool.specs.Pool.{Pool, countOf, nextOf, setCount, setNext, holder, frees}
-use Rattle.pool.specs.laws.Held.{into}
+use Rattle.pool.specs.Pool.{Pool, countOf, nextOf, setCount, setNext, holder, frees, into}
 use Rattle.pool.specs.Erase.{Dropping, step, total}
 use Rattle.pool.specs.Operations.{decap, inv}
 use Rattle.pool.specs.Check.{check, chained}

@@ -10,7 +10,8 @@ use Rattle.pool.specs.laws.Edit.{put-length, put-same, put-other, put-put, put-
 use Rattle.pool.specs.laws.Held.{Chain-frame}
 use Rattle.pool.specs.Operations.{Made, load}
 use Rattle.pool.specs.Pool.{at, Cell, put, kindOf, countOf, nextOf, followed, setNext, Chain}
-use Rattle.pool.specs.Tally.{same, same-of, tally, occ}
+use Rattle.pool.specs.Tally.{same, tally, occ}
+use Rattle.pool.specs.laws.TallyLaws.{same-of}
 use Rattle.reading.specs.Build.{link, Open, Built, built, finished, completed, after, inside, hung}
 
 -- the free chain has enough cells, none twice

@@ -9,7 +9,7 @@ use lib.Dec.{eqb}
 use lib.ListN.{length, getD, set}
 use lib.Seq.{getD-set-same, getD-set-other}
 use Rattle.pool.specs.Pool.{Cell, Pool, nextOf}
-use Rattle.table.specs.Fields.{cell, putCell, putFree}
+use Rattle.pool.specs.Setters.{cell, putCell, putFree}
 use Rattle.table.specs.View.{view, Shows}
 use Rattle.table.specs.laws.ViewLaws.{said}
 use Rattle.table.specs.declared.Shape.{Shape}

@@ -10,7 +10,8 @@ use Rattle.pool.specs.laws.Edit.{put-length, mark-past}
 use Rattle.pool.specs.Operations.{load, read}
 use Rattle.pool.specs.Pool.{at, Cell, Pool, put, kindOf, countOf, nextOf, followed, Chain, frees, Sound}
 use Rattle.pool.specs.laws.Room.{frees-lives}
-use Rattle.pool.specs.Tally.{same-eq, same-of, tally, occ}
+use Rattle.pool.specs.Tally.{tally, occ}
+use Rattle.pool.specs.laws.TallyLaws.{same-eq, same-of}
 use Rattle.reading.specs.Build.{Open, Built, finished, wanted, Link, held, after, inside, hung, heldBy}
 use Rattle.reading.specs.laws.BuildLaws.{Supply, head-of, fewer, off-put, head-link, atom-hung, open-hung, shut-hung, shut-last}
 use Rattle.reading.specs.Reading.{hang, begun, Off, LinkOff, OpenOff, Reading}

@@ -5,7 +5,7 @@ use mathlib.Core.List.{List}
 use native.Mathlib.Omega.{arith}
 use borrow.Author.Needs.{needs}
 use Rattle.pool.specs.Pool.{Cell}
-use Rattle.table.specs.Fields.{celled, putNext}
+use Rattle.pool.specs.Setters.{celled, putNext}
 use Rattle.table.specs.View.{view, Shows}
 use Rattle.table.specs.laws.ViewLaws.{itself, said, after}
 use Rattle.setup.specs.laws.Linked.{linked, linked-step, linked-all}

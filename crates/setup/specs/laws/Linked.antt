@@ -11,8 +11,8 @@ use lib.ListN.{set}
 use borrow.Author.Tests.{lt-ltb, le-ltb}
 use Rattle.pool.specs.Operations.{laid}
 use Rattle.pool.specs.Pool.{Cell, blank, followed, setNext}
-use Rattle.pool.specs.Tally.{ne}
-use Rattle.table.specs.Fields.{cell}
+use Rattle.pool.specs.laws.TallyLaws.{ne}
+use Rattle.pool.specs.Setters.{cell}
 use Rattle.table.specs.Tab.{tab, getD-tab, tab-same, tab-set}
 
 -- the successor of the cell with number i + 1

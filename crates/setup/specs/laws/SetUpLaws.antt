@@ -16,7 +16,7 @@ use Rattle.pool.specs.Pool.{Cell, blank, Pool, holder, frees, Sound}
 use Rattle.table.specs.declared.Form.{Form}
 use Rattle.table.specs.declared.Form.the-variants.{Four, Packed, Wide}
 use Rattle.table.specs.declared.Shape.{Shape}
-use Rattle.table.specs.Fields.{cell, celled, putFree}
+use Rattle.pool.specs.Setters.{cell, celled, putFree}
 use Rattle.table.specs.Limits.{packs, head, holdersFit, holdersTold, holdersMost}
 use Rattle.table.specs.Pack.{part}
 use Rattle.table.specs.Sizes.{sizesFit, cleared}

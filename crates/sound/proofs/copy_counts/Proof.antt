@@ -2,7 +2,7 @@
 use mathlib.Core.Path.{_≡_, refl, sym, _∙_, subst}
 use Prim.Native.Nat.{ℕ, _-_}
 use native.Mathlib.Omega.{arith}
-use Rattle.pool.specs.Tally.{same-le}
+use Rattle.pool.specs.laws.TallyLaws.{same-le}
 use Rattle.table.specs.View.{view}
 use Rattle.sound.specs.Mirror.{Copied}
 use Rattle.sound.specs.laws.CopyLaws.{Copying, copy-start, copy-step, copy-end}

@@ -1,6 +1,6 @@
 -- `sound::one_if_none` meets its contract.
 use mathlib.Core.Path.{sym}
-use Rattle.pool.specs.Tally.{same-of, same-ne}
+use Rattle.pool.specs.laws.TallyLaws.{same-of, same-ne}
 use Rattle.sound.proofs.one_if_none.Statement.{statement}
 use Rattle.sound.proofs.one_if_none.Tie as tie
 

@@ -9,7 +9,7 @@ use native.Mathlib.Omega.{arith}
 use lib.Dec.{eqb}
 use lib.ListN.{length}
 use borrow.Author.Tests.{ne-eqb}
-use Rattle.pool.specs.Tally.{same-of, same-ne}
+use Rattle.pool.specs.laws.TallyLaws.{same-of, same-ne}
 use Rattle.pool.specs.Pool.{Cell, countOf, nextOf, InPool, mark}
 use Rattle.pool.specs.Check.{chained}
 use Rattle.pool.specs.laws.Edit.{mark-cell, mark-past}

@@ -7,7 +7,8 @@ use native.Mathlib.Numerals.{add-one}
 use native.Mathlib.Omega.{arith}
 use lib.ListN.{length, getD, set}
 use lib.Seq.{getD-set-same, getD-set-other}
-use Rattle.pool.specs.Tally.{same, same-le}
+use Rattle.pool.specs.Tally.{same}
+use Rattle.pool.specs.laws.TallyLaws.{same-le}
 use Rattle.pool.specs.Pool.{Cell, countOf, frees}
 use Rattle.pool.specs.laws.Reach.{upto}
 use Rattle.pool.specs.laws.Number.{tally-upto}

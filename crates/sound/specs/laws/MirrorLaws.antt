@@ -8,7 +8,8 @@ use native.Mathlib.Numerals.{add-one}
 use native.Mathlib.Omega.{arith}
 use lib.ListN.{length, getD, set, length-set}
 use lib.Seq.{getD-set-same, getD-set-other, drop-set-lt}
-use Rattle.pool.specs.Tally.{tally, occ, same-of}
+use Rattle.pool.specs.Tally.{tally, occ}
+use Rattle.pool.specs.laws.TallyLaws.{same-of}
 use Rattle.pool.specs.Pool.{Cell, at, countOf, counted, setCount}
 use Rattle.pool.specs.Check.{Peeling, lowered, meet}
 use Rattle.pool.specs.laws.Edit.{put-length, put-same, put-other, at-past}

@@ -6,7 +6,8 @@ use Prim.Native.Nat.{ℕ, _+_, _≤_, _<_}
 use native.Mathlib.Decide.{ℕ-discrete}
 use native.Mathlib.Omega.{arith}
 use lib.ListN.{length}
-use Rattle.pool.specs.Tally.{same-eq, tally, occ}
+use Rattle.pool.specs.Tally.{tally, occ}
+use Rattle.pool.specs.laws.TallyLaws.{same-eq}
 use Rattle.pool.specs.Pool.{Cell, Pool, InPool}
 use Rattle.pool.specs.Check.{Peeling, afterHolders}
 use Rattle.pool.specs.laws.Edit.{live-cell}

@@ -10,7 +10,8 @@ use lib.ListN.{length, getD, List·getD-eq-default}
 use Rattle.pool.specs.laws.Bound.{count-bound}
 use Rattle.pool.specs.laws.Edit.{live-cell, mark-cell, mark-past}
 use Rattle.pool.specs.Pool.{Cell, blank, Pool, at, countOf, nextOf, Live, NullOrLive, Chain, mark, Sound}
-use Rattle.pool.specs.Tally.{same, same-of, Same, eq, ne, same?, tally, occ}
+use Rattle.pool.specs.Tally.{same, tally, occ}
+use Rattle.pool.specs.laws.TallyLaws.{same-of, Same, eq, ne, same?}
 use Rattle.table.specs.laws.WordsLaws.{Fit}
 
 -- of the cells of a chain, each is followed by the next or by 0

@@ -17,7 +17,8 @@ use Rattle.pool.specs.laws.Edit.{put-same, put-put}
 use Rattle.pool.specs.Pool.{Cell, blank, Pool, at, put, holder}
 use Rattle.table.specs.Limits.{packs, head, holdersTold, holdersMany, cellsMost, cellsIn, tableWords}
 use Rattle.table.specs.Tab.{tab, length-tab, getD-tab, tab-same, tab-set}
-use Rattle.table.specs.Fields.{pick, field, fitted, cell, celled, putCell, putField, putFree, putHolder}
+use Rattle.table.specs.Fields.{pick, field, fitted, putField}
+use Rattle.pool.specs.Setters.{cell, celled, putCell, putFree, putHolder}
 use Rattle.table.specs.Pack.{part, room, withPart, part-with, part-elem, whole}
 use Rattle.table.specs.View.{holderCount, start, cellWord, storedTwo, cellOf, view, Table, IsCell, Shows}
 

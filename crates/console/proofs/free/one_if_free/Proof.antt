@@ -1,7 +1,7 @@
 -- `console::free::one_if_free` meets its contract.
 use mathlib.Core.Path.{sym}
 use native.Mathlib.Omega.{arith}
-use Rattle.pool.specs.Tally.{same-of, same-ne}
+use Rattle.pool.specs.laws.TallyLaws.{same-of, same-ne}
 use Rattle.console.proofs.free.one_if_free.Statement.{statement}
 use Rattle.console.proofs.free.one_if_free.Tie as tie
 

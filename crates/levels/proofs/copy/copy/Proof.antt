@@ -8,7 +8,7 @@ use lib.ListN.{length}
 use Rattle.loops.specs.Loop.{steps, Going, begin, before, again, less, finish}
 use Rattle.pool.specs.Operations.{item, Made}
 use Rattle.pool.specs.Pool.{Pool, InPool}
-use Rattle.table.specs.Fields.{celled, putFree}
+use Rattle.pool.specs.Setters.{celled, putFree}
 use Rattle.table.specs.View.{holderCount, view, Table, IsCell}
 use Rattle.table.specs.laws.ViewLaws.{said, pool-path}
 use Rattle.levels.specs.Copying.{copying, over, moved, told, Sure, made, placed}

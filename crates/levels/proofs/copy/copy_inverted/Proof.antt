@@ -5,7 +5,7 @@ use native.Mathlib.Omega.{arith}
 use lib.ListN.{length}
 use borrow.Author.Needs.{needs}
 use Rattle.pool.specs.Pool.{Pool, holder}
-use Rattle.table.specs.Fields.{putHolder}
+use Rattle.pool.specs.Setters.{putHolder}
 use Rattle.table.specs.View.{view}
 use Rattle.table.specs.laws.ViewLaws.{after, said}
 use Rattle.levels.specs.Copying.{made, placed, Copies}

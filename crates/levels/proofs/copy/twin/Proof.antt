@@ -1,7 +1,7 @@
 -- `levels::copy::twin` meets its contract.
 use native.Mathlib.Omega.{arith}
 use borrow.Author.Needs.{needs}
-use Rattle.table.specs.Fields.{cell, putCell}
+use Rattle.pool.specs.Setters.{cell, putCell}
 use Rattle.table.specs.laws.ViewLaws.{after, said}
 use Rattle.levels.specs.laws.CopyingLaws.{is-twin}
 use Rattle.levels.proofs.copy.twin.Statement.{statement}

@@ -6,7 +6,7 @@ use lib.ListN.{length}
 use borrow.Author.Needs.{needs}
 use Rattle.pool.specs.Pool.{Pool}
 use Rattle.pool.specs.Operations.{flip}
-use Rattle.table.specs.Fields.{celled, putHolder}
+use Rattle.pool.specs.Setters.{celled, putHolder}
 use Rattle.table.specs.View.{view}
 use Rattle.table.specs.laws.ViewLaws.{after, said}
 use Rattle.levels.specs.laws.TurningLaws.{own-turns, head-top, is-inv}

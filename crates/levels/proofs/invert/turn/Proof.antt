@@ -6,7 +6,7 @@ use lib.ListN.{length}
 use mathlib.Core.List.{List}
 use Prim.Native.Nat.{ℕ}
 use Rattle.pool.specs.Pool.{Cell, Pool}
-use Rattle.table.specs.Fields.{celled}
+use Rattle.pool.specs.Setters.{celled}
 use Rattle.table.specs.View.{view, Table, IsCell}
 use Rattle.table.specs.laws.ViewLaws.{pool-path}
 use Rattle.loops.specs.Loop.{steps, Going, begin, before, again, less, finish}

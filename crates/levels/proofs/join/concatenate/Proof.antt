@@ -7,7 +7,7 @@ use lib.ListN.{length}
 use borrow.Author.Needs.{needs}
 use Rattle.cells.specs.Range.{holder-high}
 use Rattle.pool.specs.Pool.{holder}
-use Rattle.table.specs.Fields.{putNext, putHolder}
+use Rattle.pool.specs.Setters.{putNext, putHolder}
 use Rattle.table.specs.View.{view}
 use Rattle.table.specs.laws.ViewLaws.{itself, after, said}
 use Rattle.levels.specs.laws.Joining.{join-none, join-null, join-last, last-cell}
