@@ -9,7 +9,7 @@ use lib.Dec.{eqb}
 use lib.ListN.{length, replicate}
 use Rattle.answers.specs.Answers.{DONE}
 use Rattle.lists.specs.Lst.{Lst, len, order, extent, onto, reversed}
-use Rattle.pool.specs.Erase.{run, visit, step, total, dropped}
+use Rattle.pool.specs.Erase.{dropping, visit, step, total, dropped}
 use Rattle.pool.specs.Operations.{read, laid, fresh, pfl, erase, span, load, listFrom, listOf}
 use Rattle.pool.specs.Pool.{Cell, nextOf, frees}
 use Rattle.pool.specs.Script.{FIRST, refusal, PFL, ERASE, effect, Run, performed}
@@ -107,5 +107,5 @@ stated =
     []
 
 pub edges : map row cases ≡ stated
-unfolding verdict scanned listIn len order extent reversed onto performed refusal effect read load fresh laid operations listFrom erase dropped total run step visit tally frees same pfl span
+unfolding verdict scanned listIn len order extent reversed onto performed refusal effect read load fresh laid operations listFrom erase dropped total dropping step visit tally frees same pfl span
 edges = refl

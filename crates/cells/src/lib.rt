@@ -2,11 +2,11 @@
 ghost use mathlib.Core.Path.{_≡_};
 ghost use mathlib.Core.Logic.{_≢_};
 ghost use Prim.Native.Nat.{_≤_, _<_};
-ghost use Rattle.pool.specs.Pool.{countOf, nextOf};
-ghost use Rattle.pool.specs.Operations.{share, item};
-ghost use Rattle.pool.specs.Setters.{cell, celled, putCell, putFree, putNext};
+ghost use Rattle.pool.specs.Pool.{countOf};
+ghost use Rattle.pool.specs.Operations.{borrowed, item};
+ghost use Rattle.pool.specs.Setters.{cell, release};
 ghost use Rattle.table.specs.View.{greatestCount, view, Table, IsCell, Shows};
-ghost use Rattle.cells.specs.Range.{Spare};
+ghost use Rattle.cells.specs.Range.{Spare, NewCell};
 use table::Shape;
 
 // The element of cell x if it is a list, else null.
@@ -26,7 +26,7 @@ pub fn share(s: Shape, t: &mut [u32], x: usize)
     requires { ⌜ Table s (now t) ⌝ }
     requires { ⌜ x ≤ s .cells ⌝ }
     requires { ⌜ (x ≢ 0 → countOf (view s (now t) .cells) x < greatestCount s) ⌝ }
-    ensures { λ r. ⌜ Shows s (now (t .exit)) (celled (share (view s (now (t .entry)) .cells) x) (view s (now (t .entry)))) ⌝ }
+    ensures { λ r. ⌜ Shows s (now (t .exit)) (borrowed x (view s (now (t .entry)))) ⌝ }
 {
     if x != 0 {
         let n = table::count_of(s, t, x) + 1;
@@ -39,7 +39,7 @@ pub fn new_cell(s: Shape, t: &mut [u32], kind: u32, elem: u32, next: usize) -> u
     requires { ⌜ Table s (now t) ⌝ }
     requires { ⌜ Spare s (view s (now t)) ⌝ }
     requires { ⌜ (kind ≤ 1) × (next ≤ s .cells) ⌝ }
-    ensures { λ r. ⌜ (r ≡ view s (now (t .entry)) .free) × Shows s (now (t .exit)) (putCell r (cell kind elem 1 next) (putFree (nextOf (view s (now (t .entry)) .cells) r) (view s (now (t .entry))))) ⌝ }
+    ensures { λ r. ⌜ NewCell s (now (t .exit)) (view s (now (t .entry))) (cell kind elem 1 next) r ⌝ }
 {
     let x = table::free_head(s, t);
     let rest = table::next_of(s, t, x);
@@ -53,7 +53,7 @@ pub fn release(s: Shape, t: &mut [u32], x: usize)
     requires { ⌜ Table s (now t) ⌝ }
     requires { ⌜ IsCell s x ⌝ }
     requires { ⌜ view s (now t) .free ≤ s .cells ⌝ }
-    ensures { λ r. ⌜ Shows s (now (t .exit)) (putFree x (putNext x (view s (now (t .entry)) .free) (view s (now (t .entry))))) ⌝ }
+    ensures { λ r. ⌜ Shows s (now (t .exit)) (release x (view s (now (t .entry)))) ⌝ }
 {
     let f = table::free_head(s, t);
     table::set_next(s, t, x, f);

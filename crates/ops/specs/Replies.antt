@@ -8,7 +8,7 @@ use Rattle.answers.specs.Answers.{DONE}
 use Rattle.ops.specs.declared.Reply.{Reply}
 use Rattle.ops.specs.declared.Reply.the-variants.{Done, Refused}
 use Rattle.pool.specs.Pool.{Pool}
-use Rattle.pool.specs.Script.{Operation, Effect, refusal, effect, after}
+use Rattle.pool.specs.Script.{Operation, Effect, refusal, effect, poolAfter}
 use Rattle.table.specs.View.{view, Table}
 use Rattle.table.specs.declared.Shape.{Shape}
 
@@ -25,5 +25,5 @@ reply p o = cond (eqb (refusal p o) DONE) (said (effect p o)) (Refused (refusal 
 -- operation o on pool p is answered by r, and leaves the words ws
 pub record Gives (s : Shape) (ws : List ℕ) (r : Reply) (p : Pool) (o : Operation) : Type 0 where
   pub table : Table s ws
-  pub is : view s ws ≡ after p o
+  pub is : view s ws ≡ poolAfter p o
   pub told : r ≡ reply p o

@@ -1,6 +1,6 @@
--- The test for soundness: every arrow met takes one off the count of its end, and the arrows of a cell are met when its count
--- has run out; so all counts run out exactly if they are right and nothing reaches itself. The type is looked at when a cell's
--- arrows are met, and so in every live cell if all goes well. With it the free chain.
+-- The test for soundness: every arrow met takes one off the count of its end, and the arrows of a cell are met when its
+-- count has run out; so all counts run out exactly if they are right and nothing reaches itself. The type is looked at
+-- when a cell's arrows are met, and so in every live cell if all goes well. With it the free chain.
 use mathlib.Core.Bool.{Bool, true, false, cond, _&&_}
 use mathlib.Core.List.{List, [], _∷_}
 use Prim.Native.Nat.{ℕ, zero, suc, _+_}
@@ -8,7 +8,8 @@ use lib.Dec.{eqb, leb}
 use lib.ListN.{length, getD}
 use Rattle.pool.specs.Pool.{Cell, Pool, at, kindOf, countOf, nextOf, setCount, mark, frees}
 
--- cells have the counts that are left; ok: no arrow was met that its end did not count, and no type over 1; gone: cells taken off the stack
+-- cells have the counts that are left; ok: no arrow was met that its end did not count, and no type over 1;
+-- gone: cells taken off the stack
 pub record Peeling : Type 0 where
   pub ok : Bool
   pub cells : List Cell
@@ -18,8 +19,10 @@ pub record Peeling : Type 0 where
 -- an arrow to x dropped, where n are left
 unfoldable pub lowered : Peeling → ℕ → ℕ → Peeling
 lowered st x zero = record { ok = false; cells = st .cells; stack = st .stack; gone = st .gone }
-lowered st x (suc zero) = record { ok = st .ok; cells = setCount (st .cells) x 0; stack = x ∷ st .stack; gone = st .gone }
-lowered st x (suc (suc k)) = record { ok = st .ok; cells = setCount (st .cells) x (suc k); stack = st .stack; gone = st .gone }
+lowered st x (suc zero) =
+    record { ok = st .ok; cells = setCount (st .cells) x 0; stack = x ∷ st .stack; gone = st .gone }
+lowered st x (suc (suc k)) =
+    record { ok = st .ok; cells = setCount (st .cells) x (suc k); stack = st .stack; gone = st .gone }
 
 unfoldable pub meet : ℕ → Peeling → Peeling
 meet zero st = st
@@ -65,4 +68,6 @@ unfoldable pub peeled? : List Cell → Peeling → Bool
 peeled? cs st = st .ok && eqb (st .gone + frees cs) (length cs)
 
 unfoldable pub check : Pool → Bool
-check p = chained (frees (p .cells)) (p .cells) (p .free) && peeled? (p .cells) (turns (length (p .cells)) (p .cells) (afterHolders p))
+check p =
+    chained (frees (p .cells)) (p .cells) (p .free)
+    && peeled? (p .cells) (turns (length (p .cells)) (p .cells) (afterHolders p))

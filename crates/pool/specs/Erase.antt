@@ -30,13 +30,13 @@ step f cs (suc i) b n = visit f cs (suc i) b n (countOf cs (suc i) - 1) (kindOf 
 abbrev pub stepped : Dropping → Dropping
 stepped s = step (s .free) (s .cells) (s .here) (s .waiting) (s .freed)
 
-unfoldable pub run : ℕ → Dropping → Dropping
-run zero s = s
-run (suc k) s = run k (stepped s)
+unfoldable pub dropping : ℕ → Dropping → Dropping
+dropping zero s = s
+dropping (suc k) s = dropping k (stepped s)
 
 -- twice the sum of the counts is enough
 unfoldable pub total : List Cell → ℕ
 total cs = tally (λ x. x .count) cs
 
 unfoldable pub dropped : ℕ → List Cell → ℕ → Dropping
-dropped f cs x = run (total cs + total cs) (record { free = f; cells = cs; here = x; waiting = 0; freed = 0 })
+dropped f cs x = dropping (total cs + total cs) (record { free = f; cells = cs; here = x; waiting = 0; freed = 0 })

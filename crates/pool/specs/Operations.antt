@@ -7,7 +7,7 @@ use lib.Dec.{eqb, ltb}
 use lib.ListN.{length, replicate}
 use Rattle.lists.specs.Lst.{Lst, nil, atom, list}
 use Rattle.pool.specs.Pool.{Cell, blank, Pool, put, kindOf, elemOf, countOf, nextOf, setCount, setNext, holder}
-use Rattle.pool.specs.Setters.{putFree, putHolder, celled, putCell, putCount, putNext, cell}
+use Rattle.pool.specs.Setters.{putFree, putHolder, celled, putCount, putNext, cell, newCell, release}
 use Rattle.pool.specs.Erase.{dropped}
 
 -- the cells of a new pool: m of them, the first with number i + 1, each followed by the next and the last by 0
@@ -25,6 +25,9 @@ unfoldable pub share : List Cell → ℕ → List Cell
 share cs zero = cs
 share cs (suc i) = setCount cs (suc i) (suc (countOf cs (suc i)))
 
+abbrev pub borrowed : ℕ → Pool → Pool
+borrowed c p = celled (share (p .cells) c) p
+
 -- what a cell's element gives to a holder: the list, or null for an atom
 unfoldable pub itemOf : ℕ → ℕ → ℕ
 itemOf zero e = 0
@@ -37,19 +40,19 @@ item cs x = itemOf (kindOf cs x) (elemOf cs x)
 unfoldable pub pfa : Pool → ℕ → ℕ → Pool
 pfa p a v =
     let x = p .free in
-    putHolder a x (putFree (nextOf (p .cells) x) (putCell x (cell 0 v 1 (holder p a)) p))
+    putHolder a x (newCell x (cell 0 v 1 (holder p a)) p)
 
 -- PFL: the same with the list of b for its element; the arrow of b becomes the cell's
 unfoldable pub pfl : Pool → ℕ → ℕ → Pool
 pfl p a b =
     let x = p .free in
-    putHolder b 0 (putHolder a x (putFree (nextOf (p .cells) x) (putCell x (cell 1 (holder p b) 1 (holder p a)) p)))
+    putHolder b 0 (putHolder a x (newCell x (cell 1 (holder p b) 1 (holder p a)) p))
 
 -- DECAP: the arrows of the first cell become those of the holders, and the cell is freed
 unfoldable pub decap : Pool → ℕ → ℕ → Pool
 decap p a b =
     let x = holder p a in
-    let q = putFree x (putNext x (p .free) (putCount x 0 p)) in
+    let q = release x (putCount x 0 p) in
     putHolder b (item (p .cells) x) (putHolder a (nextOf (p .cells) x) q)
 
 -- ADV: element and tail are borrowed, then the old list is erased
@@ -63,7 +66,7 @@ adv p a b =
 
 -- BORROW
 unfoldable pub borrow : Pool → ℕ → ℕ → Pool
-borrow p a b = putHolder b (holder p a) (celled (share (p .cells) (holder p a)) p)
+borrow p a b = putHolder b (holder p a) (borrowed (holder p a) p)
 
 -- ERASE: the pool after it, and the number of cells freed
 unfoldable pub erase : Pool → ℕ → Pool × ℕ

@@ -1,4 +1,4 @@
--- The pool of cells, whatever the layout of the words: its cells, what list a number stands for, reaching, and soundness.
+-- The pool of cells, whatever the layout of the words: cells, the list a number stands for, reaching, and soundness.
 use mathlib.Core.Path.{_≡_}
 use mathlib.Core.Logic.{_≢_, _⊎_}
 use mathlib.Core.Bool.{cond}

@@ -1,4 +1,5 @@
--- What an operation refuses, in the order of the answers 6 to 12, what it says, and a run of operations up to the first refusal.
+-- What an operation refuses, in the order of the answers 6 to 12, what it says, and a run of operations up to the first
+-- refusal.
 use mathlib.Core.Bool.{Bool, false, cond, not, _&&_, _||_}
 use mathlib.Core.List.{List, [], _∷_}
 use Prim.Native.Nat.{ℕ, suc}
@@ -134,8 +135,8 @@ effect p o =
     (tellsNumber (lengthOf p (o .a)) p))))))))))
 
 -- the pool after an operation: as it was where the operation is refused
-unfoldable pub after : Pool → Operation → Pool
-after p o = cond (eqb (refusal p o) DONE) (effect p o .pool) p
+unfoldable pub poolAfter : Pool → Operation → Pool
+poolAfter p o = cond (eqb (refusal p o) DONE) (effect p o .pool) p
 
 -- a run of operations: the pool after it, the answer, the operations done, and two result words for each of them
 pub record Run : Type 0 where
@@ -148,7 +149,8 @@ abbrev pub stops : Pool → ℕ → Run
 stops p n = record { pool = p; answer = n; done = 0; results = [] }
 
 abbrev pub goesOn : Effect → Run → Run
-goesOn d r = record { pool = r .pool; answer = r .answer; done = suc (r .done); results = d .kind ∷ d .value ∷ r .results }
+goesOn d r =
+    record { pool = r .pool; answer = r .answer; done = suc (r .done); results = d .kind ∷ d .value ∷ r .results }
 
 -- the operations one after another, up to the first that is refused
 unfoldable pub performed : Pool → List Operation → Run

@@ -1,9 +1,9 @@
--- One part of a pool replaced, and the rest as it is: the operations are written with these, so that only they know what
--- parts a pool has.
+-- One part of a pool replaced, and the rest as it is. The operations are written with these, so that they alone know
+-- what parts a pool has.
 use mathlib.Core.List.{List}
 use Prim.Native.Nat.{ℕ}
 use lib.ListN.{set}
-use Rattle.pool.specs.Pool.{Cell, Pool, put, setCount, setNext}
+use Rattle.pool.specs.Pool.{Cell, Pool, put, nextOf, setCount, setNext}
 
 abbrev pub putFree : ℕ → Pool → Pool
 putFree f p = record { free = f; holders = p .holders; cells = p .cells }
@@ -28,3 +28,11 @@ putNext c s p = celled (setNext (p .cells) c s) p
 -- a cell by type, element, count and successor
 abbrev pub cell : ℕ → ℕ → ℕ → ℕ → Cell
 cell k e n s = record { kind = k; elem = e; count = n; next = s }
+
+-- a new cell comes from the head of the free chain, and becomes x
+abbrev pub newCell : ℕ → Cell → Pool → Pool
+newCell c x p = putCell c x (putFree (nextOf (p .cells) c) p)
+
+-- a cell freed goes to the head of the free chain
+abbrev pub release : ℕ → Pool → Pool
+release c p = putFree c (putNext c (p .free) p)

@@ -1,7 +1,7 @@
 -- Counting: equality of numbers as 0 or 1, sums over a list, and how many numbers have a property.
 use mathlib.Core.Bool.{cond}
 use mathlib.Core.List.{List, [], _∷_}
-use Prim.Native.Nat.{ℕ, zero, suc, _+_}
+use Prim.Native.Nat.{ℕ, suc, _+_}
 use lib.Dec.{eqb}
 
 -- 1 if the two are equal, else 0

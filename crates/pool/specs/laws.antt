@@ -1,11 +1,14 @@
 pub mod TallyLaws
 pub mod Edit
 pub mod PoolLaws
+pub mod Arrows
 pub mod Held
+pub mod HeldSteps
 pub mod Reach
 pub mod Frame
 pub mod Number
 pub mod Drop
+pub mod DropRun
 pub mod Visit
 pub mod SoundLaws
 pub mod EraseLaws
@@ -20,7 +23,9 @@ pub mod AdvanceWays
 pub mod Inverse
 pub mod Room
 pub mod Copy
+pub mod LastCell
 pub mod Join
+pub mod Conc
 pub mod Fresh
 pub mod Load
 pub mod Peel

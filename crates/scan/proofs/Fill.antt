@@ -8,7 +8,7 @@ use borrow.Author.Tests.{eq-eqb, ne-eqb}
 use Rattle.text.specs.Limits.{recordBytes}
 use Rattle.text.specs.Text as text
 use Rattle.text.specs.Text.{place, afterAll, fault, State, at, taken, settle, stepOf, answer, done}
-use Rattle.text.specs.Marks.{Mark, met, begun}
+use Rattle.text.specs.Marks.{Mark, met, beginnings}
 use Rattle.text.specs.laws.TextLaws.{rests-taken, digit-step, Class, is-open, is-shut, is-comma, is-blank, is-digit, is-other, class}
 use Rattle.text.specs.laws.MarkLaws.{trace-taken}
 use Rattle.scan.specs.Places.{overAt, Outlook, outlook}
@@ -38,7 +38,7 @@ module _ (s : List ℕ) (o : Outlook) (e i : ℕ) (q : o ≡ outlook (e + 1) (ov
       let over = place afterAll 0 0 0 in
       let z : e + 1 + 0 ≡ e + 1 = omega arith in
       q ∙ ap (λ (u : State). outlook (e + 1) u (drop i s)) (inside-record i n) ∙ turn s (e + 1) over i h
-      ∙ ap (λ (c : ℕ). outlook (e + 1 + begun (met (at over i) c)) (settle (i + 1) (stepOf over c)) (drop (i + 1) s)) b
+      ∙ ap (λ (c : ℕ). outlook (e + 1 + beginnings (met (at over i) c)) (settle (i + 1) (stepOf over c)) (drop (i + 1) s)) b
       ∙ ap (λ (k : ℕ). outlook k (overAt (i + 1)) (drop (i + 1) s)) z
 
   pub record-full : i % recordBytes ≡ 0 → doneScan i e ≡ told o
@@ -46,6 +46,6 @@ module _ (s : List ℕ) (o : Outlook) (e i : ℕ) (q : o ≡ outlook (e + 1) (ov
       let full : overAt i ≡ taken i = simp (eq-eqb (i % recordBytes) 0 z) in
       let here = q ∙ ap (λ (u : State). outlook (e + 1) u (drop i s)) full in
       let a : o .answered ≡ done i = ap (λ (w : Outlook). w .answered) here ∙ ap answer (rests-taken i (drop i s)) in
-      let n : o .begins ≡ e + 1 + 0 = ap (λ (w : Outlook). w .begins) here ∙ ap (λ (l : List Mark). e + 1 + begun l) (trace-taken i (drop i s)) in
+      let n : o .begins ≡ e + 1 + 0 = ap (λ (w : Outlook). w .begins) here ∙ ap (λ (l : List Mark). e + 1 + beginnings l) (trace-taken i (drop i s)) in
       let x : e ≡ o .begins - 1 = omega arith in
       ap (doneScan i) x ∙ ap (λ (w : text.Answer). saying w (o .begins - 1)) (sym a)

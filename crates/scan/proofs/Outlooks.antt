@@ -6,25 +6,25 @@ use mathlib.Core.Bool.{true}
 use native.Mathlib.Omega.{arith}
 use lib.ListN.{length, drop, getD}
 use Rattle.text.specs.Text.{Scan, Step, fault, State, at, refused, stepOf, settle, run, answer, refusal, digitAt}
-use Rattle.text.specs.Marks.{Mark, met, trace, begun}
+use Rattle.text.specs.Marks.{Mark, met, trace, beginnings}
 use Rattle.text.specs.ListText.{isDigit}
 use Rattle.text.specs.laws.TextLaws.{rests-refused, digit-step}
-use Rattle.text.specs.laws.MarkLaws.{begun-append, digit-met}
+use Rattle.text.specs.laws.MarkLaws.{beginnings-append, digit-met}
 use Rattle.scan.specs.Places.{outlook, Prospect, prospect, behind}
 use Rattle.scan.proofs.RunLaws.{next, digit-bounds}
 
 pub goes : (k : ℕ) (s : Scan) (i b : ℕ) (l : List ℕ)
-    → outlook k (at s i) (b ∷ l) ≡ outlook (k + begun (met (at s i) b)) (settle (i + 1) (stepOf s b)) l
+    → outlook k (at s i) (b ∷ l) ≡ outlook (k + beginnings (met (at s i) b)) (settle (i + 1) (stepOf s b)) l
 goes k s i b l =
     let st = settle (i + 1) (stepOf s b) in
-    let e : k + begun (trace (at s i) (b ∷ l)) ≡ k + begun (met (at s i) b) + begun (trace st l)
-    = omega (arith, begun-append (met (at s i) b) (trace st l)) in
+    let e : k + beginnings (trace (at s i) (b ∷ l)) ≡ k + beginnings (met (at s i) b) + beginnings (trace st l)
+    = omega (arith, beginnings-append (met (at s i) b) (trace st l)) in
     ap (λ (n : ℕ). record { answered = answer (run st l); begins = n }) e
 
 -- at a place of a text
 pub turn : (text : List ℕ) (k : ℕ) (s : Scan) (i : ℕ) → i < length text
     → outlook k (at s i) (drop i text)
-    ≡ outlook (k + begun (met (at s i) (getD text i 0))) (settle (i + 1) (stepOf s (getD text i 0))) (drop (i + 1) text)
+    ≡ outlook (k + beginnings (met (at s i) (getD text i 0))) (settle (i + 1) (stepOf s (getD text i 0))) (drop (i + 1) text)
 turn text k s i h = ap (outlook k (at s i)) (next text i h) ∙ goes k s i (getD text i 0) (drop (i + 1) text)
 
 -- the marks themselves

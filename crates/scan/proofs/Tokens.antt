@@ -13,9 +13,9 @@ use Rattle.text.specs.Text as text
 use Rattle.text.specs.Text.{Scan, place, afterOpen, afterComma, inAtom, afterElement, mayOpen, mayShut, mayPart, mayBegin, mark, fault, State, at, settle, stepOf, shutAt, refusal}
 use Rattle.text.specs.ListText.{isDigit}
 use Rattle.text.specs.Marks as marks
-use Rattle.text.specs.Marks.{Mark, met, begun, pending, shut, value}
+use Rattle.text.specs.Marks.{Mark, met, beginnings, pending, shut, value}
 use Rattle.text.specs.laws.TextLaws.{by-case, no-yes, digit-step, Class, is-open, is-shut, is-comma, is-blank, is-digit, is-other, class}
-use Rattle.text.specs.laws.MarkLaws.{begun-append}
+use Rattle.text.specs.laws.MarkLaws.{beginnings-append}
 use Rattle.scan.specs.Runs.{digitRun, numeral}
 use Rattle.scan.specs.Places.{placed, openOf, tooLong, stateOf, closedAt, phaseOf, Prospect, prospect, prospectAt, behind, shuts, emitted, Inside, Closing, Onward, Told, Taken, Closed}
 use Rattle.scan.specs.declared.step.Place.{Place}
@@ -39,9 +39,9 @@ shutting i d h =
     (λ t. let n : d - 1 ≡ 0 → ⊥ = λ z. omega (arith, ltb-false d 2 t) in simp (ne-eqb (d - 1) 0 n))
 
 -- the ends of lists begin no element
-begun-shuts : (n : ℕ) → begun (shuts n) ≡ 0
-begun-shuts zero = refl
-begun-shuts (suc n) = begun-shuts n
+beginnings-shuts : (n : ℕ) → beginnings (shuts n) ≡ 0
+beginnings-shuts zero = refl
+beginnings-shuts (suc n) = beginnings-shuts n
 
 shuts-more : (n : ℕ) → shuts n ++ (shut ∷ []) ≡ shuts (suc n)
 shuts-more zero = refl
@@ -59,7 +59,7 @@ module _ (s : List ℕ) (a : ℕ) (t : Scan) (i : ℕ) (from : a ≤ i) (some : 
   fault-told b n q f = stops s t i n some (ap (stepOf t) q ∙ f)
 
   -- ",", which leaves n elements begun
-  comma-on : (e n top : ℕ) → t .depth ≤ top → mayPart (t .phase) ≡ true → n ≡ e + begun (pending t) → n ≤ i + 1 → getD s i 0 ≡ 44
+  comma-on : (e n top : ℕ) → t .depth ≤ top → mayPart (t .phase) ≡ true → n ≡ e + beginnings (pending t) → n ≤ i + 1 → getD s i 0 ≡ 44
       → Onward s a e top here (pending t) (placed (i + 1) (t .depth) n false)
   comma-on e n top high may c count q =
       let st : settle (i + 1) (stepOf t 44) ≡ at (place afterComma (t .depth) 0 0) (i + 1) = simp may in
@@ -83,18 +83,18 @@ module _ (s : List ℕ) (a : ℕ) (t : Scan) (i : ℕ) (from : a ≤ i) (some : 
       ∙ ap (λ (v : State). behind (pending t ++ (shut ∷ [])) (prospect v (drop (i + 1) s))) (ap (settle (i + 1)) step ∙ shutting (i + 1) (t .depth) deep)
 
   -- ")", which leaves n elements begun, and what follows it
-  shut-told : (e n : ℕ) (m : Place → List Mark) → n ≡ e + begun (pending t)
+  shut-told : (e n : ℕ) (m : Place → List Mark) → n ≡ e + beginnings (pending t)
       → ((q : Place) → q .depth ≤ t .depth - 1 → q .elements ≡ n → m q ≡ pending t ++ (shut ∷ shuts (t .depth - 1 - q .depth)))
       → mayShut (t .phase) ≡ true → getD s i 0 ≡ 41 → (u : Step) → Closed s (t .depth - 1) n (i + 1) u → Told s a e (t .depth + 1) here m u
   shut-told e n m c is may q (step.Mark p) w =
       let k = t .depth - 1 - p .depth in
-      let ms : m p ≡ pending t ++ (shut ∷ shuts k) = is p (w .high) (omega (arith, w .tallied, begun-shuts k)) in
+      let ms : m p ≡ pending t ++ (shut ∷ shuts k) = is p (w .high) (omega (arith, w .tallied, beginnings-shuts k)) in
       record {
         on = omega (arith, w .on);
         within = w .within;
         levelled = w .levelled;
         counted = w .counted;
-        tallied = omega (arith, w .tallied, begun-shuts k, ap begun ms, begun-append (pending t) (shut ∷ shuts k));
+        tallied = omega (arith, w .tallied, beginnings-shuts k, ap beginnings ms, beginnings-append (pending t) (shut ∷ shuts k));
         high = omega (arith, w .high);
         same = shut-same may q ∙ ap (behind (pending t ++ (shut ∷ []))) (w .same)
             ∙ behind-behind (pending t ++ (shut ∷ [])) (shuts k) (prospectAt s p)
@@ -115,7 +115,7 @@ module _ (s : List ℕ) (a : ℕ) (t : Scan) (i : ℕ) (from : a ≤ i) (some : 
         within = omega arith;
         levelled = omega arith;
         counted = omega arith;
-        tallied = omega (arith, ap begun is);
+        tallied = omega (arith, ap beginnings is);
         high = omega arith;
         same = becomes 40 q
             ∙ ap (λ (u : State). behind (marks.opened ∷ []) (prospect u (drop (i + 1) s))) (st ∙ sym (standing p (omega arith)))
@@ -210,7 +210,7 @@ module _ {s : List ℕ} {depth e at d i : ℕ} (k : Shutting s depth e at d i) w
             within = w .within;
             levelled = k .levelled;
             counted = w .counted;
-            tallied = omega (arith, begun-shuts (depth - d));
+            tallied = omega (arith, beginnings-shuts (depth - d));
             high = k .high;
             same = stands ∙ ap (behind (shuts (depth - d))) (w .same);
           }
@@ -242,7 +242,7 @@ module _ {s : List ℕ} {depth e at d i : ℕ} (k : Shutting s depth e at d i) w
         within = k .within;
         levelled = omega arith;
         counted = k .counted;
-        tallied = omega (arith, begun-shuts (depth - 0));
+        tallied = omega (arith, beginnings-shuts (depth - 0));
         high = omega arith;
         same = k .same ∙ ap (λ (n : ℕ). behind (shuts (depth - n)) (prospect (closedAt n i) (drop i s))) z;
       }
@@ -289,7 +289,7 @@ module _ {s : List ℕ} {p : Place} (h : Inside s p) where
       let deep = h .deep in
       told u
       (shut-told s (p .at) scanAt (p .at) (omega arith) (h .some) (h .deep) (h .levelled) (p .elements) (p .elements) (emitted s p)
-      (omega (arith, ap begun none))
+      (omega (arith, ap beginnings none))
       (λ x d e. let k = p .depth - 1 - x .depth in
       emits-shuts x (suc k) (omega arith) e (omega arith) ∙ ap (λ (ms : List Mark). ms ++ (shut ∷ shuts k)) (sym none))
       (ap (λ (x : Bool). mayShut (phaseOf x)) f) q u w)

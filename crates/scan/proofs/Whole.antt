@@ -12,10 +12,10 @@ use Rattle.lists.specs.Lst.{extent}
 use Rattle.text.specs.Limits.{levels}
 use Rattle.text.specs.Text as text
 use Rattle.text.specs.Text.{place, begin, State, at, run, settle, stepOf, answer, scanned, refusal, done}
-use Rattle.text.specs.Marks.{met, begun, trace, listIn}
+use Rattle.text.specs.Marks.{met, beginnings, trace, listIn}
 use Rattle.text.specs.laws.TextLaws.{decide, class}
-use Rattle.text.specs.laws.MarkLaws.{begun-append}
-use Rattle.text.specs.laws.Accepted.{begun-text, never-nought}
+use Rattle.text.specs.laws.MarkLaws.{beginnings-append}
+use Rattle.text.specs.laws.Accepted.{beginnings-text, never-nought}
 use Rattle.scan.specs.Places.{opened, faultOf, overAt, stateOf, phaseOf, Outlook, outlook, outlookAt, Prospect, prospectAt, emitted, Inside, Taken}
 use Rattle.scan.specs.laws.Starts.{no-start}
 use Rattle.scan.specs.Outcomes.{Sized, saying, told, refusedScan, scannedAs}
@@ -35,11 +35,11 @@ whole-says : (s : List ℕ) → told (whole s) ≡ scannedAs s
 unfolding scanned
 whole-says s =
     let a = scanned s in
-    let n = begun (trace (at begin 0) s) in
+    let n = beginnings (trace (at begin 0) s) in
     let same : cond (eqb (a .no) 0) (0 + n - 1) 0 ≡ cond (eqb (a .no) 0) (extent (listIn s)) 0
     = decide (eqb (a .no) 0) (cond (eqb (a .no) 0) (0 + n - 1) 0 ≡ cond (eqb (a .no) 0) (extent (listIn s)) 0)
     (λ e. let q : a ≡ done (a .taken) = ap (λ (k : ℕ). record { no = k; taken = a .taken }) (eqb-true (a .no) 0 e) in
-    let x : 0 + n - 1 ≡ extent (listIn s) = omega (arith, begun-text s (a .taken) q) in
+    let x : 0 + n - 1 ≡ extent (listIn s) = omega (arith, beginnings-text s (a .taken) q) in
     ap (λ (k : ℕ). cond (eqb (a .no) 0) k 0) x)
     (λ e. simp e) in
     ap (λ (k : ℕ). record { answer = a .no; taken = a .taken; extent = k }) same
@@ -66,7 +66,7 @@ pub record Stands (s : List ℕ) (p : Place) : Type 0 where
 pub starts : (s : List ℕ) → 0 < length s → getD s 0 0 ≡ 40 → Stands s opened
 starts s h e =
     record {
-      same = turn s 0 begin 0 h ∙ ap (λ (b : ℕ). outlook (0 + begun (met (at begin 0) b)) (settle 1 (stepOf begin b)) (drop 1 s)) e;
+      same = turn s 0 begin 0 h ∙ ap (λ (b : ℕ). outlook (0 + beginnings (met (at begin 0) b)) (settle 1 (stepOf begin b)) (drop 1 s)) e;
       within = omega arith;
       deep = omega arith;
       levelled = omega arith;
@@ -81,8 +81,8 @@ counts : (s : List ℕ) (p q : Place) → Taken s p (step.Mark q) → outlookAt 
 counts s p q w =
     let ms = emitted s p q in
     let l = (prospectAt s q) .marks in
-    let n : p .elements + 1 + begun (ms ++ l) ≡ q .elements + 1 + begun l = omega (arith, begun-append ms l, w .tallied) in
-    ap (λ (o : Prospect). record { answered = o .answered; begins = p .elements + 1 + begun (o .marks) }) (w .same)
+    let n : p .elements + 1 + beginnings (ms ++ l) ≡ q .elements + 1 + beginnings l = omega (arith, beginnings-append ms l, w .tallied) in
+    ap (λ (o : Prospect). record { answered = o .answered; begins = p .elements + 1 + beginnings (o .marks) }) (w .same)
     ∙ ap (λ (k : ℕ). record { answered = (prospectAt s q) .answered; begins = k }) n
 
 pub goes-on : (s : List ℕ) (p q : Place) → Stands s p → Taken s p (step.Mark q) → (q .depth ≡ 0 → ⊥) → Stands s q

@@ -9,7 +9,7 @@ use Rattle.text.specs.Limits.{levels, digitsMost, textMost}
 use Rattle.text.specs.Text as text
 use Rattle.text.specs.Text.{State, place, mark, settle, run, answer, refusal}
 use Rattle.text.specs.Marks as marks
-use Rattle.text.specs.Marks.{Mark, shut, value, trace, begun}
+use Rattle.text.specs.Marks.{Mark, shut, value, trace, beginnings}
 use Rattle.scan.specs.Runs.{numeral}
 use Rattle.scan.specs.declared.step.Place.{Place}
 use Rattle.scan.specs.declared.step.Step.{Step}
@@ -58,7 +58,7 @@ pub record Outlook : Type 0 where
   pub begins : ℕ
 
 abbrev pub outlook : ℕ → State → List ℕ → Outlook
-outlook k st l = record { answered = answer (run st l); begins = k + begun (trace st l) }
+outlook k st l = record { answered = answer (run st l); begins = k + beginnings (trace st l) }
 
 -- the outermost "(" begins no element
 abbrev pub outlookAt : List ℕ → Place → Outlook
@@ -114,7 +114,7 @@ pub record Onward (s : List ℕ) (i e top : ℕ) (o : Prospect) (ms : List Mark)
   pub within : q .at ≤ length s
   pub levelled : q .depth ≤ levels
   pub counted : q .elements ≤ q .at
-  pub tallied : q .elements ≡ e + begun ms
+  pub tallied : q .elements ≡ e + beginnings ms
   pub high : q .depth ≤ top
   pub same : o ≡ behind ms (prospect (stateOf q) (drop (q .at) s))
 

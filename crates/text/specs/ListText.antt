@@ -1,4 +1,5 @@
--- The text of a list: its characters with leading zeros dropped, and its fill; and a text without its blanks and leading zeros.
+-- The text of a list: its characters with leading zeros dropped, and its fill; and a text without its blanks and
+-- leading zeros.
 use Prim.Native.Nat.{ℕ, zero, suc, _+_, _-_, _/_, _%_}
 use mathlib.Core.List.{List, [], _∷_, _++_}
 use mathlib.Core.Bool.{Bool, true, false, cond}
@@ -41,7 +42,8 @@ fill n = replicate ((recordBytes - n % recordBytes) % recordBytes) 32
 abbrev pub written : Lst → List ℕ
 written l = textOf l ++ fill (length (textOf l))
 
--- a text without its blanks and without the leading zeros of its atoms: a "0" goes where no digit of its atom was kept and a digit follows
+-- a text without its blanks and without the leading zeros of its atoms: a "0" goes where no digit of its atom was kept
+-- and a digit follows
 abbrev pub isDigit : ℕ → Bool
 isDigit b = cond (leb 48 b) (leb b 55) false
 

@@ -1,4 +1,5 @@
--- The marks between text and lists: a list has its marks in order, a scan of characters meets marks, and a run of marks builds a list.
+-- The marks between text and lists: a list has its marks in order, a scan of characters meets marks, and a run of marks
+-- builds a list.
 use Prim.Native.Nat.{ℕ, _+_}
 use mathlib.Core.List.{List, [], _∷_, _++_}
 use mathlib.Core.Bool.{Bool, true, false, cond}
@@ -28,7 +29,10 @@ pending s = cond (isAtom (s .phase)) (value (s .value) ∷ []) []
 
 -- the marks met at one character, and along a text
 abbrev pub met : State → ℕ → List Mark
-met (at s n) b = cond (eqb b 40) (opened ∷ []) (cond (eqb b 41) (pending s ++ (shut ∷ [])) (cond (eqb b 44) (pending s) []))
+met (at s n) b =
+    cond (eqb b 40) (opened ∷ [])
+    (cond (eqb b 41) (pending s ++ (shut ∷ []))
+    (cond (eqb b 44) (pending s) []))
 met (refused k) b = []
 met (taken n) b = []
 
@@ -58,8 +62,8 @@ unfoldable pub listIn : List ℕ → Lst
 listIn s = topOf (pushes (trace (at begin 0) s) [])
 
 -- the marks that begin an element or the list itself
-abbrev pub begun : List Mark → ℕ
-begun [] = 0
-begun (opened ∷ es) = begun es + 1
-begun (shut ∷ es) = begun es
-begun (value v ∷ es) = begun es + 1
+abbrev pub beginnings : List Mark → ℕ
+beginnings [] = 0
+beginnings (opened ∷ es) = beginnings es + 1
+beginnings (shut ∷ es) = beginnings es
+beginnings (value v ∷ es) = beginnings es + 1

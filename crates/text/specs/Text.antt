@@ -1,5 +1,6 @@
--- The text form as an automaton over the characters: 40 is "(", 41 ")", 44 ",", 32 the blank, 48 to 55 the octal digits.
--- One character gives a mark (the next place) or a fault; a state that refuses or has taken its records stays, so the earliest fault wins.
+-- The text form as an automaton over the characters: 40 is "(", 41 ")", 44 ",", 32 the blank, 48 to 55 octal digits.
+-- One character gives a mark (the next place) or a fault; a state that refuses or has taken its records stays, so the
+-- earliest fault wins.
 use Prim.Native.Nat.{ℕ, _+_, _-_, _*_, _%_}
 use mathlib.Core.List.{List, [], _∷_}
 use mathlib.Core.Bool.{Bool, true, false, cond}
@@ -8,7 +9,8 @@ use lib.Dec.{eqb, leb, ltb}
 use Rattle.answers.specs.Answers.{DONE, TEXT-SIZE, END, NOT-A-LIST, ATOM, DEEP}
 use Rattle.text.specs.Limits.{levels, recordBytes, textMost, digitsMost, atomsEnd}
 
--- where a scan stands: before the first "(", behind a "(", behind a ",", inside an atom, behind an element, behind the last ")"
+-- where a scan stands: before the first "(", behind a "(", behind a ",", inside an atom, behind an element, behind the
+-- last ")"
 pub data Phase : Type 0 where
   atStart afterOpen afterComma inAtom afterElement afterAll : Phase
 
@@ -91,7 +93,10 @@ openAt p d = cond (mayOpen p) (cond (ltb d levels) (mark (place afterOpen (d + 1
 
 -- ")": ends the innermost open list
 abbrev pub shutAt : Phase → ℕ → Step
-shutAt p d = cond (mayShut p) (cond (ltb d 2) (mark (place afterAll 0 0 0)) (mark (place afterElement (d - 1) 0 0))) (fault NOT-A-LIST)
+shutAt p d =
+    cond (mayShut p)
+    (cond (ltb d 2) (mark (place afterAll 0 0 0)) (mark (place afterElement (d - 1) 0 0)))
+    (fault NOT-A-LIST)
 
 abbrev pub commaAt : Phase → ℕ → Step
 commaAt p d = cond (mayPart p) (mark (place afterComma d 0 0)) (fault NOT-A-LIST)
@@ -99,7 +104,8 @@ commaAt p d = cond (mayPart p) (mark (place afterComma d 0 0)) (fault NOT-A-LIST
 abbrev pub blankAt : Phase → Step
 blankAt p = cond (isOver p) (mark (place afterAll 0 0 0)) (fault NOT-A-LIST)
 
--- one more digit x, at an atom of n digits so far with the value v: a twelfth digit, or a value of 2^32 or more, is a fault of its own
+-- one more digit x, at an atom of n digits so far with the value v: a twelfth digit, or a value of 2^32 or more, is a
+-- fault of its own
 abbrev pub moreAt : ℕ → ℕ → ℕ → ℕ → Step
 moreAt d n v x =
     cond (ltb n digitsMost)

@@ -1,4 +1,4 @@
--- Writing as it is judged: the output that may be used, and the earliest of DEEP and OUTPUT over the characters of a text.
+-- Writing as it is judged: the output that may be used, and the earliest of DEEP and OUTPUT over a text's characters.
 use Prim.Native.Nat.{ℕ, _+_, _-_, _*_, _/_, min, max}
 use mathlib.Core.List.{List, [], _∷_}
 use mathlib.Core.Bool.{Bool, false, cond}

@@ -2,6 +2,8 @@ pub mod TextLaws
 pub mod MarkLaws
 pub mod RoundTrip
 pub mod Front
+pub mod Digits
+pub mod OpenLists
 pub mod ReadBack
 pub mod Accepted
 pub mod Bounds

@@ -11,7 +11,7 @@ use Rattle.lists.specs.Lst.{Lst}
 use Rattle.pool.specs.Pool.{Cell, ListAt}
 use Rattle.text.specs.Limits.{levels}
 use Rattle.text.specs.ListText.{items}
-use Rattle.text.specs.laws.ReadBack.{body}
+use Rattle.text.specs.laws.OpenLists.{body}
 use Rattle.text.specs.Writing.{judged}
 use Rattle.writing.specs.declared.walk.Walk.{Walk}
 

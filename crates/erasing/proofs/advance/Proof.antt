@@ -2,7 +2,7 @@
 use mathlib.Core.Path.{_≡_, ap, sym, _∙_}
 use native.Mathlib.Omega.{arith}
 use borrow.Author.Needs.{needs}
-use Rattle.cells.specs.Range.{holder-head}
+use Rattle.cells.specs.laws.RangeLaws.{holder-head}
 use Rattle.pool.specs.laws.Advance.{holder-live}
 use Rattle.pool.specs.laws.AdvanceWays.{adv-alone}
 use Rattle.pool.specs.Pool.{countOf, holder}

@@ -1,7 +1,8 @@
 -- `erasing::drop_root` meets its contract.
 use mathlib.Core.Path.{_≡_, refl, ap, sym, _∙_}
 use native.Mathlib.Nat.{pos-of-ne-zero, le-trans}
-use Rattle.loops.specs.Loop.{steps, Going, begin, before, again, less, finish}
+use Rattle.loops.specs.Loop.{steps, Going}
+use Rattle.loops.specs.laws.LoopLaws.{begin, before, again, less, finish}
 use Rattle.pool.specs.Erase.{Dropping, stepped}
 use Rattle.table.specs.View.{greatestCount, view, Table}
 use Rattle.table.specs.laws.ViewLaws.{pool-path}

@@ -3,7 +3,7 @@ use mathlib.Core.Path.{ap}
 use Prim.Native.Nat.{_-_}
 use native.Mathlib.Omega.{arith}
 use borrow.Author.Needs.{needs}
-use Rattle.cells.specs.Range.{count-high, Head, live-head}
+use Rattle.cells.specs.laws.RangeLaws.{count-high, live-head, Head}
 use Rattle.pool.specs.laws.Bound.{count-bound}
 use Rattle.pool.specs.Operations.{share}
 use Rattle.pool.specs.Pool.{Pool, countOf}

@@ -6,13 +6,16 @@ use Prim.Native.Nat.{ℕ, zero, suc, _+_, _*_, _≤_, _<_}
 use native.Mathlib.Decide.{ℕ-discrete}
 use native.Mathlib.Omega.{arith}
 use lib.ListN.{length}
-use Rattle.loops.specs.Loop as kit
-use Rattle.cells.specs.Range.{free-high}
+use Rattle.loops.specs.Loop.{run, stop, more, Ends}
+use Rattle.loops.specs.laws.LoopLaws.{run-halt, run-go}
+use Rattle.cells.specs.laws.RangeLaws.{free-high}
 use Rattle.pool.specs.laws.Bound.{count-bound}
-use Rattle.pool.specs.laws.Drop.{Wait, Waits, waits, items, DropInv, todo, DropInvAt, here-live, step-inv, run-step, run-stop}
+use Rattle.pool.specs.laws.Drop.{Wait, Waits, waits, items, DropInv}
+use Rattle.pool.specs.laws.DropRun.{todo, DropInvAt, here-live, step-inv, dropping-step, dropping-stop}
 use Rattle.pool.specs.laws.Edit.{live-cell}
-use Rattle.pool.specs.Erase.{Dropping, run, dropped, stepped}
-use Rattle.pool.specs.laws.Held.{reroot, aside-cell}
+use Rattle.pool.specs.Erase.{Dropping, dropping, dropped, stepped}
+use Rattle.pool.specs.laws.Held.{reroot}
+use Rattle.pool.specs.laws.HeldSteps.{aside-cell}
 use Rattle.pool.specs.laws.Holders.{but, occ-take}
 use Rattle.pool.specs.Operations.{erase}
 use Rattle.pool.specs.Pool.{Cell, Pool, countOf, holder, Live, Sound}
@@ -27,15 +30,15 @@ use Rattle.erasing.specs.laws.StepLaws.{halted-yes, halted-at, halted-wa
 use Rattle.erasing.specs.laws.Counts.{step-low}
 
 -- the loop that stops at the end is the definition's, which stays there
-joined : (k : ℕ) (w : Dropping) → kit.run halted stepped k w ≡ run k w
-unfolding kit.run run
+joined : (k : ℕ) (w : Dropping) → run halted stepped k w ≡ dropping k w
+unfolding run dropping
 joined zero w = refl
 joined (suc k) w = go (joined k (stepped w)) (ℕ-discrete (w .here) 0) (ℕ-discrete (w .waiting) 0)
   where
-    go : kit.run halted stepped k (stepped w) ≡ run k (stepped w) → Dec (w .here ≡ 0) → Dec (w .waiting ≡ 0) → kit.run halted stepped (suc k) w ≡ run (suc k) w
-    go ih (yes e) (yes g) = kit.run-halt halted stepped (suc k) w (halted-yes w e g) ∙ sym (run-stop (suc k) w e g ∙ at-end w e g)
-    go ih (yes e) (no n) = kit.run-go halted stepped k w (halted-wait w e n) ∙ ih ∙ sym (run-step k w)
-    go ih (no n) g = kit.run-go halted stepped k w (halted-at w n) ∙ ih ∙ sym (run-step k w)
+    go : run halted stepped k (stepped w) ≡ dropping k (stepped w) → Dec (w .here ≡ 0) → Dec (w .waiting ≡ 0) → run halted stepped (suc k) w ≡ dropping (suc k) w
+    go ih (yes e) (yes g) = run-halt halted stepped (suc k) w (halted-yes w e g) ∙ sym (dropping-stop (suc k) w e g ∙ at-end w e g)
+    go ih (yes e) (no n) = run-go halted stepped k w (halted-wait w e n) ∙ ih ∙ sym (dropping-step k w)
+    go ih (no n) g = run-go halted stepped k w (halted-at w n) ∙ ih ∙ sym (dropping-step k w)
 
 -- each step finds what it asks
 
@@ -67,28 +70,28 @@ module _ (r : ℕ → ℕ) (bs : List Cell) where
     small = omega (arith, low (w .here), v .size);
   }
 
-  pub ends : (m k : ℕ) (w : Dropping) (ws : List Wait) → DropInvAt r bs w ws → ((c : ℕ) → countOf (w .cells) c ≤ m) → todo w ws ≤ k → kit.Ends halted stepped (Fine m) k w
+  pub ends : (m k : ℕ) (w : Dropping) (ws : List Wait) → DropInvAt r bs w ws → ((c : ℕ) → countOf (w .cells) c ≤ m) → todo w ws ≤ k → Ends halted stepped (Fine m) k w
   ends m zero w ws v low l = go (step-inv r bs (w .free) (w .cells) (w .here) (w .waiting) (w .freed) ws v)
     where
-      go : ((w .here ≡ 0) × (w .waiting ≡ 0) × (ws ≡ [])) ⊎ ((us : List Wait) × DropInvAt r bs (stepped w) us × (todo (stepped w) us < todo w ws)) → kit.Ends halted stepped (Fine m) zero w
-      go (inl (e, g, q)) = record { turns = 0; runs = kit.stop (halted-yes w e g); short = omega arith }
+      go : ((w .here ≡ 0) × (w .waiting ≡ 0) × (ws ≡ [])) ⊎ ((us : List Wait) × DropInvAt r bs (stepped w) us × (todo (stepped w) us < todo w ws)) → Ends halted stepped (Fine m) zero w
+      go (inl (e, g, q)) = record { turns = 0; runs = stop (halted-yes w e g); short = omega arith }
       go (inr (us, u, d)) = absurd (omega arith)
   ends m (suc k) w ws v low l = go (ends m k (stepped w)) (step-inv r bs (w .free) (w .cells) (w .here) (w .waiting) (w .freed) ws v)
     where
       low′ : (c : ℕ) → countOf (stepped w .cells) c ≤ m
       low′ c = omega (arith, low c, step-low (w .free) (w .cells) (w .here) (w .waiting) (w .freed) c)
 
-      on : kit.Ends halted stepped (Fine m) k (stepped w) → Dec (w .here ≡ 0) → Dec (w .waiting ≡ 0) → kit.Ends halted stepped (Fine m) (suc k) w
-      on d (yes e) (yes g) = record { turns = 0; runs = kit.stop (halted-yes w e g); short = omega arith }
-      on d (yes e) (no n) = record { turns = suc (d .turns); runs = kit.more (halted-wait w e n) (fine m w ws v low) (d .runs); short = omega (arith, d .short) }
-      on d (no n) g = record { turns = suc (d .turns); runs = kit.more (halted-at w n) (fine m w ws v low) (d .runs); short = omega (arith, d .short) }
+      on : Ends halted stepped (Fine m) k (stepped w) → Dec (w .here ≡ 0) → Dec (w .waiting ≡ 0) → Ends halted stepped (Fine m) (suc k) w
+      on d (yes e) (yes g) = record { turns = 0; runs = stop (halted-yes w e g); short = omega arith }
+      on d (yes e) (no n) = record { turns = suc (d .turns); runs = more (halted-wait w e n) (fine m w ws v low) (d .runs); short = omega (arith, d .short) }
+      on d (no n) g = record { turns = suc (d .turns); runs = more (halted-at w n) (fine m w ws v low) (d .runs); short = omega (arith, d .short) }
 
-      go : ((us : List Wait) → DropInvAt r bs (stepped w) us → ((c : ℕ) → countOf (stepped w .cells) c ≤ m) → todo (stepped w) us ≤ k → kit.Ends halted stepped (Fine m) k (stepped w))
-          → ((w .here ≡ 0) × (w .waiting ≡ 0) × (ws ≡ [])) ⊎ ((us : List Wait) × DropInvAt r bs (stepped w) us × (todo (stepped w) us < todo w ws)) → kit.Ends halted stepped (Fine m) (suc k) w
-      go ih (inl (e, g, q)) = record { turns = 0; runs = kit.stop (halted-yes w e g); short = omega arith }
+      go : ((us : List Wait) → DropInvAt r bs (stepped w) us → ((c : ℕ) → countOf (stepped w .cells) c ≤ m) → todo (stepped w) us ≤ k → Ends halted stepped (Fine m) k (stepped w))
+          → ((w .here ≡ 0) × (w .waiting ≡ 0) × (ws ≡ [])) ⊎ ((us : List Wait) × DropInvAt r bs (stepped w) us × (todo (stepped w) us < todo w ws)) → Ends halted stepped (Fine m) (suc k) w
+      go ih (inl (e, g, q)) = record { turns = 0; runs = stop (halted-yes w e g); short = omega arith }
       go ih (inr (us, u, d)) = on (ih us u low′ (omega arith)) (ℕ-discrete (w .here) 0) (ℕ-discrete (w .waiting) 0)
 
-pub root-ends : (m : ℕ) (p : Pool) (x : ℕ) → Rooted m p x → kit.Ends halted stepped (Fine m) (most p) (begun p x)
+pub root-ends : (m : ℕ) (p : Pool) (x : ℕ) → Rooted m p x → Ends halted stepped (Fine m) (most p) (begun p x)
 unfolding Waits tally
 root-ends m p x h = ends (h .rest) (p .cells) m (most p) (begun p x) []
     (record {
@@ -101,7 +104,7 @@ root-ends m p x h = ends (h .rest) (p .cells) m (most p) (begun p x) []
     (h .counts) (omega arith)
 
 -- what the code's loop leaves
-pub is-dropped : (p : Pool) (x : ℕ) → kit.run halted stepped (most p) (begun p x) ≡ dropped (p .free) (p .cells) x
+pub is-dropped : (p : Pool) (x : ℕ) → run halted stepped (most p) (begun p x) ≡ dropped (p .free) (p .cells) x
 unfolding dropped
 is-dropped p x = joined (most p) (begun p x)
 

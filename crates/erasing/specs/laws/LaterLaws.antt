@@ -3,7 +3,8 @@ use mathlib.Core.Path.{_≡_}
 use mathlib.Core.Bool.{false}
 use Prim.Native.Nat.{ℕ}
 use native.Mathlib.Omega.{arith}
-use Rattle.loops.specs.Loop.{Ends, begin, before, again, less}
+use Rattle.loops.specs.Loop.{Ends}
+use Rattle.loops.specs.laws.LoopLaws.{begin, before, again, less}
 use Rattle.pool.specs.Erase.{Dropping, stepped}
 use Rattle.erasing.specs.Erasing.{halted, Fine, Later}
 

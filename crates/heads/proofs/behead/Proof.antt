@@ -2,7 +2,7 @@
 use mathlib.Core.Path.{ap}
 use native.Mathlib.Omega.{arith}
 use borrow.Author.Needs.{needs}
-use Rattle.cells.specs.Range.{Head, live-head, ranged}
+use Rattle.cells.specs.laws.RangeLaws.{live-head, ranged, Head}
 use Rattle.heads.specs.laws.HeadLaws.{is-decap}
 use Rattle.pool.specs.Setters.{putNext, putFree, putHolder}
 use Rattle.table.specs.View.{view}

@@ -1,6 +1,6 @@
 -- `heads::borrow` meets its contract.
 use borrow.Author.Needs.{needs}
-use Rattle.cells.specs.Range.{holder-high, count-high}
+use Rattle.cells.specs.laws.RangeLaws.{holder-high, count-high}
 use Rattle.heads.specs.laws.HeadLaws.{is-borrow}
 use Rattle.pool.specs.Setters.{putHolder}
 use Rattle.table.specs.laws.ViewLaws.{after, said}

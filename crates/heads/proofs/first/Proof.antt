@@ -2,7 +2,7 @@
 use mathlib.Core.Path.{ap, sym, _∙_, _≡_, refl}
 use borrow.Author.Tests.{eq-eqb, ne-eqb}
 use borrow.Author.Needs.{needs}
-use Rattle.cells.specs.Range.{Head, holder-head}
+use Rattle.cells.specs.laws.RangeLaws.{holder-head, Head}
 use Rattle.table.specs.View.{view}
 use Rattle.pool.specs.Pool.{kindOf, elemOf}
 use Rattle.heads.proofs.first.Statement.{statement}

@@ -1,7 +1,7 @@
 -- `heads::prefix_atom` meets its contract.
 use native.Mathlib.Omega.{arith}
 use borrow.Author.Needs.{needs}
-use Rattle.cells.specs.Range.{spare, holder-high}
+use Rattle.cells.specs.laws.RangeLaws.{spare, holder-high}
 use Rattle.heads.specs.laws.HeadLaws.{is-pfa}
 use Rattle.pool.specs.Setters.{putHolder}
 use Rattle.table.specs.laws.ViewLaws.{after, said}

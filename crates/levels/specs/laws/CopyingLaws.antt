@@ -9,9 +9,10 @@ use native.Mathlib.Omega.{arith}
 use borrow.Author.Tests.{eq-eqb, ne-eqb}
 use lib.ListN.{length, getD, set}
 use lib.Seq.{getD-set-same}
-use Rattle.cells.specs.Range.{null-or-high, free-high, ranged}
+use Rattle.cells.specs.laws.RangeLaws.{null-or-high, free-high, ranged}
 use Rattle.lists.specs.Lst.{len}
-use Rattle.loops.specs.Loop.{run, Runs, stop, more, run-halt, run-go}
+use Rattle.loops.specs.Loop.{run, Runs, stop, more}
+use Rattle.loops.specs.laws.LoopLaws.{run-halt, run-go}
 use Rattle.pool.specs.laws.Advance.{null-or-item}
 use Rattle.pool.specs.laws.Bound.{tally-le, into-lives}
 use Rattle.pool.specs.laws.Copy.{copy-end, copy-next, one, cinv-does}

@@ -7,7 +7,7 @@ use native.Mathlib.Omega.{arith}
 use lib.ListN.{length, set}
 use lib.Seq.{set-getD}
 use Rattle.pool.specs.laws.Edit.{live-cell}
-use Rattle.pool.specs.laws.Join.{Last-live, last-is}
+use Rattle.pool.specs.laws.LastCell.{Last-live, last-is}
 use Rattle.pool.specs.Operations.{lastOf, concAt, conc}
 use Rattle.pool.specs.Pool.{Pool, holder, InPool, Sound}
 use Rattle.pool.specs.laws.Reach.{len-le}

@@ -10,9 +10,10 @@ use native.Mathlib.Omega.{arith}
 use borrow.Author.Tests.{eq-eqb, ne-eqb}
 use lib.ListN.{length}
 use lib.Seq.{getD-set-same}
-use Rattle.cells.specs.Range.{null-or-high}
+use Rattle.cells.specs.laws.RangeLaws.{null-or-high}
 use Rattle.lists.specs.Lst.{Lst, nil, atom, list, len}
-use Rattle.loops.specs.Loop.{run, Runs, stop, more, run-halt, run-go}
+use Rattle.loops.specs.Loop.{run, Runs, stop, more}
+use Rattle.loops.specs.laws.LoopLaws.{run-halt, run-go}
 use Rattle.pool.specs.laws.Edit.{live-cell}
 use Rattle.pool.specs.laws.Held.{Held, reroot, root-live}
 use Rattle.pool.specs.laws.Holders.{but, occ-take}

@@ -3,7 +3,7 @@ use mathlib.Core.Path.{refl}
 use Prim.Native.Nat.{ℕ, _+_, _≤_, _<_}
 use native.Mathlib.Omega.{arith}
 use lib.ListN.{length}
-use Rattle.pool.specs.laws.Drop.{drops}
+use Rattle.pool.specs.laws.DropRun.{drops}
 use Rattle.pool.specs.laws.Held.{reroot}
 use Rattle.pool.specs.laws.Holders.{but, occ-take}
 use Rattle.pool.specs.Operations.{erase}

@@ -14,19 +14,19 @@ use Rattle.ops.specs.declared.Reply.the-variants.{Done, Refused}
 use Rattle.ops.specs.Replies.{said, reply, Gives}
 use Rattle.pool.specs.Operations.{concAt, conc}
 use Rattle.pool.specs.Pool.{Pool, holder}
-use Rattle.pool.specs.Script.{Operation, refusal, effect, tellsFirst, after}
+use Rattle.pool.specs.Script.{Operation, refusal, effect, tellsFirst, poolAfter}
 use Rattle.table.specs.View.{view, Table, Shows}
 use Rattle.table.specs.declared.Shape.{Shape}
 
 -- refused: nothing is changed
 pub refuses : {s : Shape} {ws : List ℕ} (o : Operation) (k : ℕ) → Table s ws → refusal (view s ws) o ≡ k → DONE < k → Gives s ws (Refused k) (view s ws) o
-unfolding reply after
+unfolding reply poolAfter
 refuses o k t e l =
     let n : eqb k DONE ≡ false = ne-eqb k DONE (omega arith) in
     record { table = t; is = rw (e, n) refl; told = rw (e, n) refl }
 
 pub does : {s : Shape} {ws : List ℕ} {r : Reply} (p : Pool) (o : Operation) → refusal p o ≡ DONE → Shows s ws (effect p o .pool) → r ≡ said (effect p o) → Gives s ws r p o
-unfolding reply after
+unfolding reply poolAfter
 does p o e h q = record { table = h .table; is = rw e (h .is); told = rw e q }
 
 -- the first element as result words

@@ -13,7 +13,7 @@ use Rattle.pool.specs.Pool.{Cell, Pool, kindOf, elemOf, nextOf, holder, 
 use Rattle.pool.specs.Erase.{Dropping, dropped}
 use Rattle.pool.specs.Operations.{share, item, adv}
 use Rattle.pool.specs.laws.Frame.{Kept, ListAt-grown, ListAt-kept}
-use Rattle.pool.specs.laws.Drop.{Dropped, drops}
+use Rattle.pool.specs.laws.DropRun.{Dropped, drops}
 use Rattle.pool.specs.laws.SoundLaws.{none-aside, sound-held, held-sound}
 use Rattle.pool.specs.laws.Holders.{both, occ-both, both-a, both-b, both-other}
 use Rattle.pool.specs.laws.Steps.{Shared, shared}

@@ -11,7 +11,8 @@ use lib.ListN.{length, getD, set, length-set}
 use Rattle.pool.specs.Tally.{same, tally, occ}
 use Rattle.pool.specs.laws.TallyLaws.{same-eq, same-ne, same-le, tally-set}
 use Rattle.pool.specs.Pool.{Cell, Pool, countOf, holder, gives, sends, lives, Sound, into}
-use Rattle.pool.specs.laws.Held.{Held, ifLive-pos, sends-live, sends-free}
+use Rattle.pool.specs.laws.Held.{Held}
+use Rattle.pool.specs.laws.Arrows.{ifLive-pos, sends-live, sends-free}
 use Rattle.pool.specs.laws.SoundLaws.{none-aside, sound-held}
 
 pub tally-le : {A : Type 0} (f : A → ℕ) (k : ℕ) (xs : List A) → ((x : A) → f x ≤ k) → tally f xs ≤ k * length xs

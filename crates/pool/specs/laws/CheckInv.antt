@@ -15,7 +15,8 @@ use Rattle.pool.specs.laws.TallyLaws.{same-eq, same-ne, Same, eq, ne, sa
 use Rattle.pool.specs.Pool.{Cell, Pool, at, put, kindOf, countOf, nextOf, counted, setCount, InPool, Live, ifLive, gives, sends, lives, into}
 use Rattle.pool.specs.Check.{Peeling, lowered, meet, arrow, taken, pop, popped, turns, named, unmet, afterHolders}
 use Rattle.pool.specs.laws.Edit.{put-length, put-same, put-other, put-tally, at-tally, find-tally, live-cell}
-use Rattle.pool.specs.laws.Held.{Acyclic, Law, ifLive-pos, ifLive-zero, sends-live, sends-free, gives-counted}
+use Rattle.pool.specs.laws.Held.{Acyclic, Law}
+use Rattle.pool.specs.laws.Arrows.{ifLive-pos, ifLive-zero, sends-live, sends-free, gives-counted}
 use Rattle.pool.specs.laws.Reach.{into-step}
 use Rattle.pool.specs.laws.Frame.{put-cases, put-lives}
 use Rattle.pool.specs.laws.Peel.{Peels, done, skip, less, away, Peels-law, peeled}

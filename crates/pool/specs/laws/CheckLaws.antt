@@ -11,12 +11,12 @@ use borrow.Author.Tests.{eqb-true, eq-eqb, leb-true, le-leb}
 use Rattle.pool.specs.Tally.{same, tally, occ}
 use Rattle.pool.specs.laws.TallyLaws.{same-of, Same, eq, ne, same?}
 use Rattle.pool.specs.Pool.{Cell, Pool, at, countOf, nextOf, Chain, mark, frees, Sound}
-use Rattle.pool.specs.Check.{Peeling, lowered, meet, arrow, taken, pop, popped, turns, named, unmet, afterHolders, chained, peeled?, check}
+use Rattle.pool.specs.Check.{Peeling, lowered, meet, arrow, taken, pop, popped, turns, afterHolders, chained, peeled?, check}
 use Rattle.pool.specs.laws.Edit.{mark-past}
 use Rattle.pool.specs.laws.SoundLaws.{sound-held, held-sound}
 use Rattle.pool.specs.laws.Room.{lives-le, frees-lives}
 use Rattle.pool.specs.laws.Chains.{chain-full, sound-chain-length}
-use Rattle.pool.specs.laws.CheckInv.{and-both, and-of, PeelInv, turns-inv, named-inv, holders-inv, passed, passes}
+use Rattle.pool.specs.laws.CheckInv.{and-both, and-of, PeelInv, turns-inv, holders-inv, passed, passes}
 
 -- the free chain
 
@@ -124,10 +124,3 @@ sound-tested k p e s =
 pub check-decides : (p : Pool) → (check p ≡ true) ↔ Sound p
 unfolding check
 check-decides p = (tested-sound (length (p .cells)) p (ends p), sound-tested (length (p .cells)) p (ends p))
-
--- the stack never has more entries than there are cells: while holders are dropped, and at every turn
-pub holders-stack : (p : Pool) (k : ℕ) → k ≤ length (p .holders) → length ((named k (p .holders) (unmet (p .cells))) .stack) ≤ length (p .cells)
-holders-stack p k l = omega (arith, stack-fits (p .cells) (occ (p .holders)) (occ (lib.ListN.drop k (p .holders))) (named k (p .holders) (unmet (p .cells))) (named-inv k (p .cells) (p .holders) l))
-
-pub turns-stack : (p : Pool) (k : ℕ) → length ((turns k (p .cells) (afterHolders p)) .stack) ≤ length (p .cells)
-turns-stack p k = omega (arith, stack-fits (p .cells) (occ (p .holders)) (λ d. 0) (turns k (p .cells) (afterHolders p)) (turns-inv k (p .cells) (occ (p .holders)) (λ d. 0) (afterHolders p) (holders-inv p)))

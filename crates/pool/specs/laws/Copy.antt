@@ -13,7 +13,8 @@ use Rattle.pool.specs.Pool.{Cell, Pool, at, put, elemOf, countOf, nextOf
 use Rattle.pool.specs.Operations.{share, item, Made, twin, withTwin, copy, cinv}
 use Rattle.pool.specs.laws.Edit.{put-length, live-cell}
 use Rattle.pool.specs.laws.PoolLaws.{ListAt-unique}
-use Rattle.pool.specs.laws.Held.{Held, reroot, ifLive-pos, ifLive-zero}
+use Rattle.pool.specs.laws.Held.{Held, reroot}
+use Rattle.pool.specs.laws.Arrows.{ifLive-pos, ifLive-zero}
 use Rattle.pool.specs.laws.Reach.{elem-ok, len-le}
 use Rattle.pool.specs.laws.Frame.{Kept, Kept-trans, put-lives, ListAt-grown}
 use Rattle.pool.specs.laws.SoundLaws.{none-aside, sound-held, held-sound}

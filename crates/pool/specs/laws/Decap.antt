@@ -11,7 +11,7 @@ use Rattle.pool.specs.Tally.{same, occ}
 use Rattle.pool.specs.laws.TallyLaws.{same-ne}
 use Rattle.pool.specs.Pool.{Cell, Pool, at, kindOf, elemOf, countOf, nextOf, setCount, setNext, holder, ListAt, gives, Sound}
 use Rattle.pool.specs.Operations.{itemOf, item, decap}
-use Rattle.pool.specs.laws.Held.{gives-atom, gives-list}
+use Rattle.pool.specs.laws.Arrows.{gives-atom, gives-list}
 use Rattle.pool.specs.laws.Frame.{ListAt-kept}
 use Rattle.pool.specs.laws.SoundLaws.{none-aside, sound-held, held-sound}
 use Rattle.pool.specs.laws.Holders.{both, occ-both, both-a, both-b, both-other}

@@ -1,19 +1,20 @@
--- The loop of erasing keeps its invariant, ends, and leaves the invariant with one root less.
+-- The four cases of a step of erasing keep its invariant: the roots that stay, x, and what waits are all the roots there are.
 use mathlib.Core.Path.{_≡_, refl, sym, ap, _∙_, subst}
-use mathlib.Core.Logic.{_≢_, _⊎_, inl, inr}
+use mathlib.Core.Logic.{_≢_}
 use mathlib.Core.List.{List, [], _∷_}
-use Prim.Native.Nat.{ℕ, zero, suc, _+_, _-_, _≤_, _<_}
+use Prim.Native.Nat.{ℕ, suc, _+_, _-_, _<_}
 use native.Mathlib.Decide.{ℕ-discrete}
 use native.Mathlib.Omega.{arith}
 use lib.ListN.{length}
 use Rattle.pool.specs.Tally.{same, tally}
 use Rattle.pool.specs.laws.TallyLaws.{same-eq, same-ne, same-of, same-le}
 use Rattle.pool.specs.Pool.{Cell, at, put, kindOf, elemOf, countOf, nextOf, counted, followed, setCount, setNext, Live, InPool, lives}
-use Rattle.pool.specs.Erase.{Dropping, visit, step, stepped, run, total, dropped}
+use Rattle.pool.specs.Erase.{total}
 use Rattle.pool.specs.laws.Edit.{put-length, put-same, put-other, put-tally, live-cell, mark-cell}
-use Rattle.pool.specs.laws.Held.{Held, reroot, ifLive-pos, ifLive-zero, gives-atom, gives-list, root-live, lower, unlock, aside-cell, refit, shelve}
+use Rattle.pool.specs.laws.Held.{Held, reroot}
+use Rattle.pool.specs.laws.Arrows.{ifLive-pos, ifLive-zero, gives-atom, gives-list}
+use Rattle.pool.specs.laws.HeldSteps.{lower, unlock, aside-cell, refit, shelve}
 use Rattle.pool.specs.laws.Frame.{Kept, Kept-trans, put-cases, kept-count, kept-free, put-lives}
-use Rattle.pool.specs.laws.Steps.{freed}
 
 -- a waiting cell, and the element that is still to be erased
 pub record Wait : Type 0 where
@@ -66,17 +67,11 @@ fields cs ds w e = (ap (λ c. c .next) e, ap (λ c. c .elem) e)
 elsewhere : (cs : List Cell) (x w : ℕ) (y z : Cell) → w ≢ x → (nextOf (put (put cs x y) x z) w ≡ nextOf cs w) × (elemOf (put (put cs x y) x z) w ≡ elemOf cs w)
 elsewhere cs x w y z n = fields cs (put (put cs x y) x z) w (put-other (put cs x y) x w z n ∙ put-other cs x w y n)
 
-abbrev pub todo : Dropping → List Wait → ℕ
-todo s ws = total (s .cells) + total (s .cells) + length ws
-
-abbrev pub stopped : Dropping → Dropping
-stopped s = record { free = s .free; cells = s .cells; here = 0; waiting = 0; freed = s .freed }
-
 -- the four cases of a step
 
 module _ (r : ℕ → ℕ) (bs : List Cell) where
   -- x is shared: one off its count
-  case-shared : (f : ℕ) (cs : List Cell) (x b n k : ℕ) (ws : List Wait) → DropInv r bs f cs x b n ws → countOf cs x ≡ suc (suc k)
+  pub case-shared : (f : ℕ) (cs : List Cell) (x b n k : ℕ) (ws : List Wait) → DropInv r bs f cs x b n ws → countOf cs x ≡ suc (suc k)
       → DropInv r bs f (setCount cs x (suc k)) 0 b n ws × (total (setCount cs x (suc k)) < total cs)
   case-shared f cs x b n k ws v e =
       let inside = live-cell cs x (omega arith) in
@@ -99,7 +94,7 @@ module _ (r : ℕ → ℕ) (bs : List Cell) where
       omega (arith, live-waits f cs (λ c. same x c + items ws c + r c) (waits ws) x (v .held) m)
 
   -- x is an atom's cell with no other arrow: freed
-  case-atom : (f : ℕ) (cs : List Cell) (x b n : ℕ) (ws : List Wait) → DropInv r bs f cs x b n ws → countOf cs x ≡ 1 → kindOf cs x ≡ 0
+  pub case-atom : (f : ℕ) (cs : List Cell) (x b n : ℕ) (ws : List Wait) → DropInv r bs f cs x b n ws → countOf cs x ≡ 1 → kindOf cs x ≡ 0
       → DropInv r bs x (setNext (setCount cs x 0) x f) (nextOf cs x) b (suc n) ws × (total (setNext (setCount cs x 0) x f) < total cs)
   case-atom f cs x b n ws v e t =
       let inside = live-cell cs x (omega arith) in
@@ -123,7 +118,7 @@ module _ (r : ℕ → ℕ) (bs : List Cell) where
       )
 
   -- x is a list's cell with no other arrow: it waits
-  case-list : (f : ℕ) (cs : List Cell) (x b n : ℕ) (ws : List Wait) → DropInv r bs f cs x b n ws → countOf cs x ≡ 1 → kindOf cs x ≡ 1
+  pub case-list : (f : ℕ) (cs : List Cell) (x b n : ℕ) (ws : List Wait) → DropInv r bs f cs x b n ws → countOf cs x ≡ 1 → kindOf cs x ≡ 1
       → DropInv r bs f (setNext (setCount cs x 0) x b) (nextOf cs x) x n (record { cell = x; item = elemOf cs x } ∷ ws) × (total (setNext (setCount cs x 0) x b) < total cs)
   unfolding Waits tally
   case-list f cs x b n ws v e t =
@@ -155,7 +150,7 @@ module _ (r : ℕ → ℕ) (bs : List Cell) where
       )
 
   -- an end: the head of the waiting chain is freed, and its element is next
-  case-pop : (f : ℕ) (cs : List Cell) (b n : ℕ) (w : Wait) (ws : List Wait) → DropInv r bs f cs 0 b n (w ∷ ws)
+  pub case-pop : (f : ℕ) (cs : List Cell) (b n : ℕ) (w : Wait) (ws : List Wait) → DropInv r bs f cs 0 b n (w ∷ ws)
       → DropInv r bs b (setNext cs b f) (elemOf cs b) (nextOf cs b) (suc n) ws × (total (setNext cs b f) ≡ total cs)
   unfolding Waits tally
   case-pop f cs b n w ws v =
@@ -182,116 +177,3 @@ module _ (r : ℕ → ℕ) (bs : List Cell) where
       other inside u l q =
           let l′ : 0 < waits ws b = rw q at l in
           omega (arith, v .held .chain .2 b, mark-cell cs b (inside .0) (inside .1), same-le (countOf cs b) 0, same-of (w .cell) b (sym (v .chained .0)))
-
-  -- ---- the loop
-
-  abbrev pub DropInvAt : Dropping → List Wait → Type 0
-  DropInvAt s ws = DropInv r bs (s .free) (s .cells) (s .here) (s .waiting) (s .freed) ws
-
-  abbrev After : Dropping → ℕ → Type 0
-  After s m = (ws : List Wait) × DropInvAt s ws × (todo s ws < m)
-
-  visit-inv : (f : ℕ) (cs : List Cell) (x b n k t : ℕ) (ws : List Wait) → DropInv r bs f cs x b n ws → countOf cs x ≡ suc k → kindOf cs x ≡ t
-      → After (visit f cs x b n k t) (total cs + total cs + length ws)
-  unfolding visit
-  visit-inv f cs x b n (suc k) t ws v e g = let (v′, l) = case-shared f cs x b n k ws v e in (ws, v′, omega arith)
-  visit-inv f cs x b n zero zero ws v e g = let (v′, l) = case-atom f cs x b n ws v e g in (ws, v′, omega arith)
-  visit-inv f cs x b n zero (suc zero) ws v e g = let (v′, l) = case-list f cs x b n ws v e g in (record { cell = x; item = elemOf cs x } ∷ ws, v′, omega arith)
-  visit-inv f cs x b n zero (suc (suc t)) ws v e g = absurd (omega (arith, v .held .kinds x (omega arith)))
-
-  pub here-live : (f : ℕ) (cs : List Cell) (i b n : ℕ) (ws : List Wait) → DropInv r bs f cs (suc i) b n ws → Live cs (suc i)
-  here-live f cs i b n ws v = root-live f cs (λ c. same (suc i) c + items ws c + r c) (waits ws) (suc i) (v .held) (omega arith) (omega (arith, same-eq (suc i)))
-
-  -- at its end, or one step nearer to it
-  pub step-inv : (f : ℕ) (cs : List Cell) (x b n : ℕ) (ws : List Wait) → DropInv r bs f cs x b n ws
-      → ((x ≡ 0) × (b ≡ 0) × (ws ≡ [])) ⊎ After (step f cs x b n) (total cs + total cs + length ws)
-  unfolding step Waits
-  step-inv f cs zero zero n [] v = inl (refl, refl, refl)
-  step-inv f cs zero zero n (w ∷ ws) v = absurd (v .chained .1 (sym (v .chained .0)))
-  step-inv f cs zero (suc j) n [] v = absurd (omega (arith, v .chained))
-  step-inv f cs zero (suc j) n (w ∷ ws) v = let (v′, l) = case-pop f cs (suc j) n w ws v in inr (ws, v′, omega arith)
-  step-inv f cs (suc i) b n ws v =
-      let live = here-live f cs i b n ws v in
-      inr (visit-inv f cs (suc i) b n (countOf cs (suc i) - 1) (kindOf cs (suc i)) ws v (omega arith) refl)
-
-  -- what the loop leaves
-  abbrev pub Done : Dropping → Type 0
-  Done s = DropInv r bs (s .free) (s .cells) 0 0 (s .freed) [] × (s .here ≡ 0) × (s .waiting ≡ 0)
-
-  step-end : (s : Dropping) → s .here ≡ 0 → s .waiting ≡ 0 → stepped s ≡ stopped s
-  unfolding step
-  step-end s e g = rw (e, g) refl
-
-  run-end : (k : ℕ) (s : Dropping) → run k (stopped s) ≡ stopped s
-  unfolding run step
-  run-end zero s = refl
-  run-end (suc k) s = run-end k s
-
-  ended : (s : Dropping) (ws : List Wait) → DropInvAt s ws → s .here ≡ 0 → s .waiting ≡ 0 → ws ≡ [] → DropInv r bs (s .free) (s .cells) 0 0 (s .freed) []
-  ended s ws v e g q =
-      subst (λ u. DropInv r bs (s .free) (s .cells) 0 0 (s .freed) u) q (subst (λ u. DropInv r bs (s .free) (s .cells) 0 u (s .freed) ws) g (subst (λ u. DropInv r bs (s .free) (s .cells) u (s .waiting) (s .freed) ws) e v))
-
-  pub run-done : (k : ℕ) (s : Dropping) (ws : List Wait) → DropInvAt s ws → todo s ws ≤ k → Done (run k s)
-  unfolding run
-  run-done zero s ws v l = go (step-inv (s .free) (s .cells) (s .here) (s .waiting) (s .freed) ws v)
-    where
-      go : ((s .here ≡ 0) × (s .waiting ≡ 0) × (ws ≡ [])) ⊎ After (stepped s) (todo s ws) → Done s
-      go (inl (e, g, q)) = (ended s ws v e g q, e, g)
-      go (inr (ws′, v′, m)) = absurd (omega arith)
-  run-done (suc k) s ws v l = go (run-done k (stepped s)) (step-inv (s .free) (s .cells) (s .here) (s .waiting) (s .freed) ws v)
-    where
-      go : ((ws′ : List Wait) → DropInvAt (stepped s) ws′ → todo (stepped s) ws′ ≤ k → Done (run k (stepped s)))
-          → ((s .here ≡ 0) × (s .waiting ≡ 0) × (ws ≡ [])) ⊎ After (stepped s) (todo s ws) → Done (run k (stepped s))
-      go ih (inr (ws′, v′, m)) = ih ws′ v′ (omega arith)
-      go ih (inl (e, g, q)) =
-          subst Done (sym (ap (run k) (step-end s e g) ∙ run-end k s)) (ended s ws v e g q, refl, refl)
-
--- dropping one root of a pool
-pub dropped-done : (r : ℕ → ℕ) (f : ℕ) (cs : List Cell) (x : ℕ) → Held f cs (λ c. same x c + r c) (λ c. 0) → Done r cs (dropped f cs x)
-unfolding dropped Waits tally
-dropped-done r f cs x h = run-done r cs (total cs + total cs) (record { free = f; cells = cs; here = x; waiting = 0; freed = 0 }) []
-    (record {
-      chained = refl;
-      held = reroot f cs (λ c. same x c + r c) (λ c. 0) (λ c. same x c + 0 + r c) (λ c. 0) h (λ d m. omega arith) (λ d. refl);
-      kept = λ c l. (l, refl);
-      number = omega arith;
-      size = refl;
-    })
-    (omega arith)
-
--- what is left: the invariant with the roots that stay
-pub record Dropped (r : ℕ → ℕ) (cs : List Cell) (s : Dropping) : Type 0 where
-  pub held : Held (s .free) (s .cells) r (λ c. 0)
-  pub kept : Kept cs (s .cells)
-  pub number : s .freed + lives (s .cells) ≡ lives cs
-  pub size : length (s .cells) ≡ length cs
-
-pub drops : (r : ℕ → ℕ) (f : ℕ) (cs : List Cell) (x : ℕ) → Held f cs (λ c. same x c + r c) (λ c. 0) → Dropped r cs (dropped f cs x)
-unfolding tally
-drops r f cs x h = go (dropped f cs x) (dropped-done r f cs x h)
-  where
-    go : (s : Dropping) → Done r cs s → Dropped r cs s
-    go s (v, e, g) = record {
-      held = reroot (s .free) (s .cells) (λ c. same 0 c + items [] c + r c) (waits []) r (λ c. 0) (v .held) (λ d m. omega (arith, same-ne 0 d (λ q. m (sym q)))) (λ d. refl);
-      kept = v .kept;
-      number = omega (arith, v .number);
-      size = v .size;
-    }
-
--- for a program's loop: with the fuel j for a ghost measure, each turn takes one off it, and it does not run out early
-
-pub run-step : (j : ℕ) (s : Dropping) → run (suc j) s ≡ run j (stepped s)
-unfolding run
-run-step j s = refl
-
-pub fuel-left : (r : ℕ → ℕ) (bs : List Cell) (j : ℕ) (s : Dropping) (ws : List Wait) → DropInvAt r bs s ws → todo s ws ≤ j → ((s .here ≡ 0) × (s .waiting ≡ 0) → ⊥) → 0 < j
-fuel-left r bs j s ws v l n = go (step-inv r bs (s .free) (s .cells) (s .here) (s .waiting) (s .freed) ws v)
-  where
-    go : ((s .here ≡ 0) × (s .waiting ≡ 0) × (ws ≡ [])) ⊎ ((ws′ : List Wait) × DropInvAt r bs (stepped s) ws′ × (todo (stepped s) ws′ < todo s ws)) → 0 < j
-    go (inl (e, g, q)) = absurd (n (e, g))
-    go (inr (ws′, v′, m)) = omega arith
-
-pub run-stop : (j : ℕ) (s : Dropping) → s .here ≡ 0 → s .waiting ≡ 0 → run j s ≡ stopped s
-unfolding run
-run-stop zero s e g = λ i. record { free = s .free; cells = s .cells; here = e i; waiting = g i; freed = s .freed }
-run-stop (suc j) s e g = ap (run j) (step-end (λ c. 0) (s .cells) s e g) ∙ run-end (λ c. 0) (s .cells) j s

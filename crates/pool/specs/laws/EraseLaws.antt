@@ -13,10 +13,11 @@ use Rattle.pool.specs.laws.TallyLaws.{same-ne, tally-set}
 use Rattle.pool.specs.Pool.{Pool, holder, Live, NullOrLive, ListAt, Walk, Sound, Reaches}
 use Rattle.pool.specs.Erase.{Dropping, dropped}
 use Rattle.pool.specs.Operations.{erase}
-use Rattle.pool.specs.laws.Held.{reroot, Walk-map}
+use Rattle.pool.specs.laws.Held.{reroot}
+use Rattle.pool.specs.laws.Arrows.{Walk-map}
 use Rattle.pool.specs.laws.Frame.{Kept, ListAt-kept, step-kept, walk-kept}
 use Rattle.pool.specs.laws.Number.{Number-map, number-freed}
-use Rattle.pool.specs.laws.Drop.{Dropped, drops}
+use Rattle.pool.specs.laws.DropRun.{Dropped, drops}
 use Rattle.pool.specs.laws.SoundLaws.{none-aside, sound-held, held-sound, live-reached, reached-live}
 
 pub record Erases (p : Pool) (h : ℕ) (q : Pool) (n : ℕ) : Type 0 where

@@ -11,7 +11,7 @@ use Rattle.pool.specs.laws.TallyLaws.{same-ne, same-of, Same, eq, ne, sa
 use Rattle.pool.specs.Pool.{at, countOf, nextOf, holder, ifLive, sends, Walk, Chain, mark, lives, frees, Sound, into}
 use Rattle.pool.specs.Operations.{laid, fresh}
 use Rattle.pool.specs.laws.Edit.{find-tally, mark-cell, mark-past}
-use Rattle.pool.specs.laws.Held.{sends-free}
+use Rattle.pool.specs.laws.Arrows.{sends-free}
 use Rattle.pool.specs.laws.SoundLaws.{held-sound}
 use Rattle.pool.specs.laws.Room.{frees-lives}
 

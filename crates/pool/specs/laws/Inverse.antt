@@ -14,7 +14,9 @@ use Rattle.pool.specs.Pool.{Cell, Pool, at, put, elemOf, countOf, nextOf
 use Rattle.pool.specs.Operations.{flip, inv}
 use Rattle.pool.specs.laws.Edit.{put-same, put-other, live-cell, put-put}
 use Rattle.pool.specs.laws.PoolLaws.{ListAt-unique}
-use Rattle.pool.specs.laws.Held.{Held, reroot, gives-list, root-live, unlock, fill}
+use Rattle.pool.specs.laws.Held.{Held, reroot, root-live}
+use Rattle.pool.specs.laws.Arrows.{gives-list}
+use Rattle.pool.specs.laws.HeldSteps.{unlock, fill}
 use Rattle.pool.specs.laws.Reach.{len-le}
 use Rattle.pool.specs.laws.Frame.{Kept, kept-free, ListAt-grown, ListAt-kept}
 use Rattle.pool.specs.laws.SoundLaws.{none-aside, sound-held, held-sound}

@@ -1,55 +1,25 @@
--- What CONC does to a sound pool: b joined after a in the cells of a, whose main-level counts are 1.
+-- The last cell of a list, all of whose main-level counts are 1, gets another list for its successor. Idea: each cell before
+-- the last is set aside, the rest is joined, and the cell is put back as it was.
 use mathlib.Core.Path.{_≡_, refl, sym, ap, _∙_, subst}
 use mathlib.Core.Logic.{_≢_, _⊎_, inl, inr}
 use mathlib.Core.Bool.{cond}
 use mathlib.Core.List.{List}
-use Prim.Native.Nat.{ℕ, zero, suc, _+_, _≤_, _<_}
+use Prim.Native.Nat.{ℕ, _+_, _≤_, _<_}
 use native.Mathlib.Decide.{ℕ-discrete}
 use native.Mathlib.Omega.{arith}
 use lib.Dec.{eqb}
-use lib.ListN.{length, set}
-use Rattle.lists.specs.Lst.{Lst, nil, atom, list, len, joined}
-use Rattle.lists.specs.laws.LstLaws.{joined-nil}
-use Rattle.pool.specs.Tally.{same, occ}
+use Rattle.lists.specs.Lst.{Lst, nil, atom, list, joined}
+use Rattle.pool.specs.Tally.{same}
 use Rattle.pool.specs.laws.TallyLaws.{same-eq, same-ne}
-use Rattle.pool.specs.Pool.{Cell, Pool, at, put, elemOf, countOf, nextOf, counted, followed, setCount, setNext, holder, Live, NullOrLive, InPool, ListAt, gives, Sound}
-use Rattle.pool.specs.Operations.{lastOf, concAt, conc}
+use Rattle.pool.specs.Pool.{Cell, at, put, kindOf, elemOf, countOf, nextOf, counted, followed, setCount, setNext, Live, NullOrLive, InPool, ListAt, gives}
 use Rattle.pool.specs.laws.Edit.{put-same, put-other, live-cell, put-put, put-comm, put-at}
 use Rattle.pool.specs.laws.PoolLaws.{ListAt-unique}
-use Rattle.pool.specs.laws.Held.{Held, reroot, gives-list, root-live, unlock, aside-cell, fill}
-use Rattle.pool.specs.laws.Reach.{len-le}
+use Rattle.pool.specs.laws.Held.{Held, reroot, root-live}
+use Rattle.pool.specs.laws.Arrows.{gives-list}
+use Rattle.pool.specs.laws.HeldSteps.{unlock, aside-cell, fill}
 use Rattle.pool.specs.laws.Frame.{put-cases, kept-free, ListAt-grown, ListAt-kept}
-use Rattle.pool.specs.laws.SoundLaws.{none-aside, sound-held, held-sound}
-use Rattle.pool.specs.laws.Holders.{root-of, occ-both, both-a, both-b, both-other}
-use Rattle.pool.specs.laws.Prefix.{Stay}
 use Rattle.pool.specs.laws.Inverse.{Alone, Alone-like}
-
--- z is it
-unfoldable pub Last : List Cell → ℕ → Lst → ℕ → Type 0
-Last cs c nil z = ⊥
-Last cs c (atom v l) z = ((nextOf cs c ≡ 0) × (c ≡ z)) ⊎ ((nextOf cs c ≢ 0) × Last cs (nextOf cs c) l z)
-Last cs c (list e l) z = ((nextOf cs c ≡ 0) × (c ≡ z)) ⊎ ((nextOf cs c ≢ 0) × Last cs (nextOf cs c) l z)
-
-pub Last-live : (cs : List Cell) (l : Lst) (c z : ℕ) → ListAt cs c l → Last cs c l z → Live cs z
-unfolding ListAt Last
-Last-live cs nil c z h k = absurd k
-Last-live cs (atom v l) c z h (inl (e, q)) = subst (Live cs) q (h .0)
-Last-live cs (atom v l) c z h (inr (n, k)) = Last-live cs l (nextOf cs c) z (h .3) k
-Last-live cs (list e l) c z h (inl (_, q)) = subst (Live cs) q (h .0)
-Last-live cs (list e l) c z h (inr (n, k)) = Last-live cs l (nextOf cs c) z (h .3) k
-
--- by cells that are alike where bs is live
-Last-like : (bs cs : List Cell) → ((c : ℕ) → Live bs c → at cs c ≡ at bs c) → (l : Lst) (c z : ℕ) → ListAt bs c l → Last cs c l z → Last bs c l z
-unfolding ListAt Last
-Last-like bs cs k nil c z h o = o
-Last-like bs cs k (atom v l) c z h (inl (e, q)) = inl (sym (ap (λ x. x .next) (k c (h .0))) ∙ e, q)
-Last-like bs cs k (atom v l) c z h (inr (n, o)) =
-    let e : nextOf cs c ≡ nextOf bs c = ap (λ x. x .next) (k c (h .0)) in
-    inr ((λ q. n (e ∙ q)), Last-like bs cs k l (nextOf bs c) z (h .3) (subst (λ u. Last cs u l z) e o))
-Last-like bs cs k (list g l) c z h (inl (e, q)) = inl (sym (ap (λ x. x .next) (k c (h .0))) ∙ e, q)
-Last-like bs cs k (list g l) c z h (inr (n, o)) =
-    let e : nextOf cs c ≡ nextOf bs c = ap (λ x. x .next) (k c (h .0)) in
-    inr ((λ q. n (e ∙ q)), Last-like bs cs k l (nextOf bs c) z (h .3) (subst (λ u. Last cs u l z) e o))
+use Rattle.pool.specs.laws.LastCell.{Last, Last-live, Last-like}
 
 -- the element's arrow
 abbrev side : ℕ → Cell → ℕ
@@ -148,7 +118,7 @@ at-last f cs x y r a h one e =
     more c (inl q) = inl q
     more c (inr l) = inr (omega arith)
 
-null-list : (cs : List Cell) (c : ℕ) (l : Lst) → c ≡ 0 → ListAt cs c l → nil ≡ l
+pub null-list : (cs : List Cell) (c : ℕ) (l : Lst) → c ≡ 0 → ListAt cs c l → nil ≡ l
 unfolding ListAt
 null-list cs c l e h = ListAt-unique cs c nil l e h
 
@@ -156,196 +126,87 @@ side-list : (d : ℕ) (x : Cell) → x .kind ≡ 1 → side d x ≡ same (x .ele
 unfolding gives
 side-list d x e = omega (arith, gives-list d x e)
 
-joins : (f : ℕ) (y : ℕ) (m : Lst) (l : Lst) (cs : List Cell) (x z : ℕ) (r a : ℕ → ℕ) → Held f cs (λ d. same x d + same y d + r d) a
-    → ListAt cs x l → Alone cs x l → Last cs x l z → ListAt cs y m → Joined f cs x l m r a (setNext cs z y)
+-- the first cell after joining, where l is the list behind it: what it holds, what follows it, and the lists that stay
+record First (f : ℕ) (cs : List Cell) (x : ℕ) (l m : Lst) (r a : ℕ → ℕ) (ds : List Cell) : Type 0 where
+  held : Held f ds (λ d. same x d + r d) a
+  live : Live ds x
+  kind : kindOf ds x ≡ kindOf cs x
+  elem : elemOf ds x ≡ elemOf cs x
+  rest : ListAt ds (nextOf ds x) (joined l m)
+  stays : (c : ℕ) (n : Lst) → (c ≡ 0) ⊎ (0 < side c (at cs x) + r c) → ListAt cs c n → ListAt ds c n
+
+abbrev Joins : ℕ → ℕ → ℕ → Lst → Lst → Type 0
+Joins f y z l m = (cs : List Cell) (x : ℕ) (r a : ℕ → ℕ) → Held f cs (λ d. same x d + same y d + r d) a → ListAt cs x l → Alone cs x l
+    → Last cs x l z → ListAt cs y m → Joined f cs x l m r a (setNext cs z y)
+
+module _ (f y z : ℕ) (l m : Lst) (cs : List Cell) (x : ℕ) (r a : ℕ → ℕ) (h : Held f cs (λ d. same x d + same y d + r d) a) (one : countOf cs x ≡ 1)
+    (rest : ListAt cs (nextOf cs x) l) (ly : ListAt cs y m) where
+  -- it is the last
+  first-last : nextOf cs x ≡ 0 → x ≡ z → First f cs x l m r a (setNext cs z y)
+  unfolding joined
+  first-last e q =
+      let t = at-last f cs x y r a h one e in
+      let behind : ListAt (setNext cs x y) (nextOf (setNext cs x y) x) m =
+      subst (λ u. ListAt (setNext cs x y) u m) (sym (ap (λ u. u .next) (t .here))) (t .stays y m (inr (omega (arith, same-eq y))) ly) in
+      subst (λ u. First f cs x l m r a (setNext cs u y)) q (record {
+        held = t .held;
+        live = subst (λ u. 0 < u .count) (sym (t .here)) (omega arith);
+        kind = ap (λ u. u .kind) (t .here);
+        elem = ap (λ u. u .elem) (t .here);
+        rest = subst (λ u. ListAt (setNext cs x y) (nextOf (setNext cs x y) x) (joined u m)) (null-list cs (nextOf cs x) l e rest) behind;
+        stays = λ c n o w. t .stays c n (more c o) w;
+      })
+    where
+      more : (c : ℕ) → (c ≡ 0) ⊎ (0 < side c (at cs x) + r c) → (c ≡ 0) ⊎ (0 < same y c + (side c (at cs x) + r c))
+      more c (inl e) = inl e
+      more c (inr p) = inr (omega arith)
+
+  -- the last is behind it
+  first-before : Alone cs (nextOf cs x) l → Last cs (nextOf cs x) l z → Joins f y z l m → First f cs x l m r a (setNext cs z y)
+  first-before lone k ih =
+      let t = out f cs x y r a h one in
+      let cs₁ : List Cell = setCount cs x 0 in
+      let s = nextOf cs x in
+      let ls = t .stays s l (inr (omega (arith, same-eq s))) rest in
+      let k₁ = Last-like cs₁ cs (λ c w. t .like c w .1) l s z ls k in
+      let zx = t .like z (Last-live cs₁ l s z ls k₁) .0 in
+      let g = ih cs₁ s (λ d. side d (at cs x) + r d) (λ d. a d + same x d) (t .held) ls
+      (Alone-like cs₁ cs cs₁ (λ c w. (t .like c w .1, refl)) l s ls lone) k₁ (t .stays y m (inr (omega (arith, same-eq y))) ly) in
+      let b = back f (setNext cs₁ z y) x (at cs x) r a one (h .kinds x (omega arith)) (g .held) in
+      subst (First f cs x l m r a) (swap cs x z y zx) (record {
+        held = b .held;
+        live = subst (λ u. 0 < u .count) (sym (b .here)) (omega arith);
+        kind = ap (λ u. u .kind) (b .here);
+        elem = ap (λ u. u .elem) (b .here);
+        rest = subst (λ u. ListAt (put (setNext cs₁ z y) x (at cs x)) u (joined l m)) (sym (ap (λ u. u .next) (b .here))) (b .grown s (joined l m) (g .gets));
+        stays = λ c n o w. b .grown c n (g .others c n o (t .stays c n (more c o) w));
+      })
+    where
+      more : (c : ℕ) → (c ≡ 0) ⊎ (0 < side c (at cs x) + r c) → (c ≡ 0) ⊎ (0 < same (nextOf cs x) c + same y c + (side c (at cs x) + r c))
+      more c (inl e) = inl e
+      more c (inr p) = inr (omega arith)
+
+  first : Alone cs (nextOf cs x) l → ((nextOf cs x ≡ 0) × (x ≡ z)) ⊎ ((nextOf cs x ≢ 0) × Last cs (nextOf cs x) l z) → Joins f y z l m
+      → First f cs x l m r a (setNext cs z y)
+  first lone (inl (e, q)) ih = first-last e q
+  first lone (inr (n, k)) ih = first-before lone k ih
+
+-- a root beside x stays one beside the element of x
+beside : (x : Cell) (r : ℕ → ℕ) (c : ℕ) → (c ≡ 0) ⊎ (0 < r c) → (c ≡ 0) ⊎ (0 < side c x + r c)
+beside x r c (inl e) = inl e
+beside x r c (inr p) = inr (omega arith)
+
+pub joins : (f y z : ℕ) (m l : Lst) → Joins f y z l m
 unfolding ListAt Alone Last joined
-joins f y m nil cs x z r a h lx o k ly = absurd k
-joins f y m (atom v l) cs x z r a h lx o (inl (e, q)) ly =
-    let t = at-last f cs x y r a h (o .0) e in
-    let w : ListAt (setNext cs x y) x (atom v (joined nil m)) = (
-      subst (λ u. 0 < u .count) (sym (t .here)) (lx .0),
-      ap (λ u. u .kind) (t .here) ∙ lx .1,
-      ap (λ u. u .elem) (t .here) ∙ lx .2,
-      subst (λ u. ListAt (setNext cs x y) u m) (sym (ap (λ u. u .next) (t .here))) (t .stays y m (inr (omega (arith, same-eq y))) ly),
-    ) in
-    subst (λ u. Joined f cs x (atom v l) m r a (setNext cs u y)) q (record {
+joins f y z m nil cs x r a h lx o k ly = absurd k
+joins f y z m (atom v l) cs x r a h lx o k ly =
+    let t = first f y z l m cs x r a h (o .0) (lx .3) ly (o .1) k (joins f y z m l) in
+    record { held = t .held; gets = (t .live, t .kind ∙ lx .1, t .elem ∙ lx .2, t .rest); others = λ c n p w. t .stays c n (beside (at cs x) r c p) w }
+joins f y z m (list e l) cs x r a h lx o k ly =
+    let t = first f y z l m cs x r a h (o .0) (lx .3) ly (o .1) k (joins f y z m l) in
+    let named : 0 < side (elemOf cs x) (at cs x) + r (elemOf cs x) = omega (arith, same-eq (elemOf cs x), side-list (elemOf cs x) (at cs x) (lx .1)) in
+    record {
       held = t .held;
-      gets = subst (λ u. ListAt (setNext cs x y) x (atom v (joined u m))) (null-list cs (nextOf cs x) l e (lx .3)) w;
-      others = λ c n p u. t .stays c n (more c p) u;
-    })
-  where
-    more : (c : ℕ) → (c ≡ 0) ⊎ (0 < r c) → (c ≡ 0) ⊎ (0 < same y c + (side c (at cs x) + r c))
-    more c (inl e) = inl e
-    more c (inr p) = inr (omega arith)
-joins f y m (atom v l) cs x z r a h lx o (inr (n, k)) ly =
-    let t = out f cs x y r a h (o .0) in
-    let cs₁ : List Cell = setCount cs x 0 in
-    let s = nextOf cs x in
-    let ls = t .stays s l (inr (omega (arith, same-eq s))) (lx .3) in
-    let ly₁ = t .stays y m (inr (omega (arith, same-eq y))) ly in
-    let k₁ = Last-like cs₁ cs (λ c w. t .like c w .1) l s z ls k in
-    let zx = t .like z (Last-live cs₁ l s z ls k₁) .0 in
-    let g = joins f y m l cs₁ s z (λ d. side d (at cs x) + r d) (λ d. a d + same x d) (t .held) ls (Alone-like cs₁ cs cs₁ (λ c w. (t .like c w .1, refl)) l s ls (o .1)) k₁ ly₁ in
-    let b = back f (setNext cs₁ z y) x (at cs x) r a (o .0) (h .kinds x (lx .0)) (g .held) in
-    subst (Joined f cs x (atom v l) m r a) (swap cs x z y zx) (record {
-      held = b .held;
-      gets = (
-        subst (λ u. 0 < u .count) (sym (b .here)) (lx .0),
-        ap (λ u. u .kind) (b .here) ∙ lx .1,
-        ap (λ u. u .elem) (b .here) ∙ lx .2,
-        subst (λ u. ListAt (put (setNext cs₁ z y) x (at cs x)) u (joined l m)) (sym (ap (λ u. u .next) (b .here))) (b .grown s (joined l m) (g .gets)),
-      );
-      others = λ c w p u. b .grown c w (g .others c w (more₁ c p) (t .stays c w (more₂ c p) u));
-    })
-  where
-    more₁ : (c : ℕ) → (c ≡ 0) ⊎ (0 < r c) → (c ≡ 0) ⊎ (0 < side c (at cs x) + r c)
-    more₁ c (inl e) = inl e
-    more₁ c (inr p) = inr (omega arith)
-
-    more₂ : (c : ℕ) → (c ≡ 0) ⊎ (0 < r c) → (c ≡ 0) ⊎ (0 < same (nextOf cs x) c + same y c + (side c (at cs x) + r c))
-    more₂ c (inl e) = inl e
-    more₂ c (inr p) = inr (omega arith)
-joins f y m (list g′ l) cs x z r a h lx o (inl (e, q)) ly =
-    let t = at-last f cs x y r a h (o .0) e in
-    let w : ListAt (setNext cs x y) x (list g′ (joined nil m)) = (
-      subst (λ u. 0 < u .count) (sym (t .here)) (lx .0),
-      ap (λ u. u .kind) (t .here) ∙ lx .1,
-      subst (λ u. ListAt (setNext cs x y) u g′) (sym (ap (λ u. u .elem) (t .here))) (t .stays (elemOf cs x) g′ (inr (omega (arith, same-eq (elemOf cs x), side-list (elemOf cs x) (at cs x) (lx .1)))) (lx .2)),
-      subst (λ u. ListAt (setNext cs x y) u m) (sym (ap (λ u. u .next) (t .here))) (t .stays y m (inr (omega (arith, same-eq y))) ly),
-    ) in
-    subst (λ u. Joined f cs x (list g′ l) m r a (setNext cs u y)) q (record {
-      held = t .held;
-      gets = subst (λ u. ListAt (setNext cs x y) x (list g′ (joined u m))) (null-list cs (nextOf cs x) l e (lx .3)) w;
-      others = λ c n p u. t .stays c n (more c p) u;
-    })
-  where
-    more : (c : ℕ) → (c ≡ 0) ⊎ (0 < r c) → (c ≡ 0) ⊎ (0 < same y c + (side c (at cs x) + r c))
-    more c (inl e) = inl e
-    more c (inr p) = inr (omega arith)
-joins f y m (list g′ l) cs x z r a h lx o (inr (n, k)) ly =
-    let t = out f cs x y r a h (o .0) in
-    let cs₁ : List Cell = setCount cs x 0 in
-    let s = nextOf cs x in
-    let ls = t .stays s l (inr (omega (arith, same-eq s))) (lx .3) in
-    let ly₁ = t .stays y m (inr (omega (arith, same-eq y))) ly in
-    let k₁ = Last-like cs₁ cs (λ c w. t .like c w .1) l s z ls k in
-    let zx = t .like z (Last-live cs₁ l s z ls k₁) .0 in
-    let g = joins f y m l cs₁ s z (λ d. side d (at cs x) + r d) (λ d. a d + same x d) (t .held) ls (Alone-like cs₁ cs cs₁ (λ c w. (t .like c w .1, refl)) l s ls (o .1)) k₁ ly₁ in
-    let b = back f (setNext cs₁ z y) x (at cs x) r a (o .0) (h .kinds x (lx .0)) (g .held) in
-    subst (Joined f cs x (list g′ l) m r a) (swap cs x z y zx) (record {
-      held = b .held;
-      gets = (
-        subst (λ u. 0 < u .count) (sym (b .here)) (lx .0),
-        ap (λ u. u .kind) (b .here) ∙ lx .1,
-        subst (λ u. ListAt (put (setNext cs₁ z y) x (at cs x)) u g′) (sym (ap (λ u. u .elem) (b .here)))
-            (b .grown (elemOf cs x) g′ (g .others (elemOf cs x) g′ (inr (omega (arith, same-eq (elemOf cs x), side-list (elemOf cs x) (at cs x) (lx .1)))) (t .stays (elemOf cs x) g′ (inr (omega (arith, same-eq (elemOf cs x), side-list (elemOf cs x) (at cs x) (lx .1)))) (lx .2)))),
-        subst (λ u. ListAt (put (setNext cs₁ z y) x (at cs x)) u (joined l m)) (sym (ap (λ u. u .next) (b .here))) (b .grown s (joined l m) (g .gets)),
-      );
-      others = λ c w p u. b .grown c w (g .others c w (more₁ c p) (t .stays c w (more₂ c p) u));
-    })
-  where
-    more₁ : (c : ℕ) → (c ≡ 0) ⊎ (0 < r c) → (c ≡ 0) ⊎ (0 < side c (at cs x) + r c)
-    more₁ c (inl e) = inl e
-    more₁ c (inr p) = inr (omega arith)
-
-    more₂ : (c : ℕ) → (c ≡ 0) ⊎ (0 < r c) → (c ≡ 0) ⊎ (0 < same (nextOf cs x) c + same y c + (side c (at cs x) + r c))
-    more₂ c (inl e) = inl e
-    more₂ c (inr p) = inr (omega arith)
-
-pub lastOf-end : (k : ℕ) (cs : List Cell) (x : ℕ) → nextOf cs x ≡ 0 → lastOf k cs x ≡ x
-unfolding lastOf
-lastOf-end zero cs x e = refl
-lastOf-end (suc k) cs x e = rw (e, lastOf)
-
-pub lastOf-next : (k : ℕ) (cs : List Cell) (x : ℕ) → nextOf cs x ≢ 0 → lastOf (suc k) cs x ≡ lastOf k cs (nextOf cs x)
-unfolding lastOf
-lastOf-next k cs x n = go (nextOf cs x) refl
-  where
-    go : (s : ℕ) → nextOf cs x ≡ s → lastOf (suc k) cs x ≡ lastOf k cs (nextOf cs x)
-    go zero e = absurd (n e)
-    go (suc i) e = rw (e, lastOf)
-
-no-cells : (cs : List Cell) (c : ℕ) (l : Lst) → len l ≤ 0 → ListAt cs c l → c ≡ 0
-unfolding len ListAt
-no-cells cs c nil s h = h
-no-cells cs c (atom v l) s h = absurd (omega arith)
-no-cells cs c (list e l) s h = absurd (omega arith)
-
-pub last-is : (l : Lst) (k : ℕ) (cs : List Cell) (x : ℕ) → ListAt cs x l → x ≢ 0 → len l ≤ suc k → Last cs x l (lastOf k cs x)
-unfolding Last ListAt len
-last-is nil k cs x h n s = absurd (n h)
-last-is (atom v l) zero cs x h n s =
-    let e = no-cells cs (nextOf cs x) l (omega arith) (h .3) in
-    inl (e, sym (lastOf-end zero cs x e))
-last-is (list g l) zero cs x h n s =
-    let e = no-cells cs (nextOf cs x) l (omega arith) (h .3) in
-    inl (e, sym (lastOf-end zero cs x e))
-last-is (atom v l) (suc k) cs x h n s = go (ℕ-discrete (nextOf cs x) 0) (λ m. last-is l k cs (nextOf cs x) (h .3) m (omega arith))
-  where
-    go : Dec (nextOf cs x ≡ 0) → (nextOf cs x ≢ 0 → Last cs (nextOf cs x) l (lastOf k cs (nextOf cs x))) → Last cs x (atom v l) (lastOf (suc k) cs x)
-    go (yes e) ih = inl (e, sym (lastOf-end (suc k) cs x e))
-    go (no m) ih = inr (m, subst (Last cs (nextOf cs x) l) (sym (lastOf-next k cs x m)) (ih m))
-last-is (list g l) (suc k) cs x h n s = go (ℕ-discrete (nextOf cs x) 0) (λ m. last-is l k cs (nextOf cs x) (h .3) m (omega arith))
-  where
-    go : Dec (nextOf cs x ≡ 0) → (nextOf cs x ≢ 0 → Last cs (nextOf cs x) l (lastOf k cs (nextOf cs x))) → Last cs x (list g l) (lastOf (suc k) cs x)
-    go (yes e) ih = inl (e, sym (lastOf-end (suc k) cs x e))
-    go (no m) ih = inr (m, subst (Last cs (nextOf cs x) l) (sym (lastOf-next k cs x m)) (ih m))
-
--- CONC (every main-level count of a is 1, or b is null)
-
-pub record Conc (p : Pool) (a b : ℕ) (l m : Lst) (q : Pool) : Type 0 where
-  pub sound : Sound q
-  pub gets : ListAt (q .cells) (holder q a) (joined l m)
-  pub null : holder q b ≡ 0
-  pub others : Stay p q (λ i. (i ≢ a) × (i ≢ b))
-
-module _ (p : Pool) (a b : ℕ) (l m : Lst) (s : Sound p) (la : a < length (p .holders)) (lb : b < length (p .holders)) (ab : a ≢ b)
-    (wa : ListAt (p .cells) (holder p a) l) (wb : ListAt (p .cells) (holder p b) m) (o : holder p b ≢ 0 → Alone (p .cells) (holder p a) l) where
-  conc-at : (x y : ℕ) → holder p a ≡ x → holder p b ≡ y → Conc p a b l m (concAt p a b x y)
-  unfolding concAt joined
-  conc-at x zero ex ey = record {
-    sound = s;
-    gets = subst (λ u. ListAt (p .cells) (holder p a) (joined l u)) (null-list (p .cells) (holder p b) m ey wb) (subst (ListAt (p .cells) (holder p a)) (sym (joined-nil l)) wa);
-    null = ey;
-    others = λ i n q w. w;
-  }
-  conc-at zero (suc j) ex ey =
-      let hs = p .holders in
-      let q : Pool = record { free = p .free; holders = set (set hs a (suc j)) b 0; cells = p .cells } in
-      record {
-        sound = held-sound q (reroot (p .free) (p .cells) (occ hs) none-aside (occ (set (set hs a (suc j)) b 0)) none-aside (sound-held p s)
-            (λ d n. omega (arith, occ-both hs a b (suc j) 0 la lb ab d, ap (λ u. same u d) ex, ap (λ u. same u d) ey, same-ne 0 d (λ q. n (sym q)))) (λ d. refl));
-        gets = subst (λ u. ListAt (p .cells) (holder q a) (joined u m)) (null-list (p .cells) (holder p a) l ex wa)
-            (subst (λ u. ListAt (p .cells) u m) (ey ∙ sym (both-a hs a b (suc j) 0 la lb ab)) wb);
-        null = both-b hs a b (suc j) 0 la lb ab;
-        others = λ i n g w. subst (λ u. ListAt (p .cells) u n) (sym (both-other hs a b (suc j) 0 la lb ab i (g .0) (g .1))) w;
-      }
-  conc-at (suc i) (suc j) ex ey =
-      let hs = p .holders in
-      let cs = p .cells in
-      let x = suc i in
-      let y = suc j in
-      let r : ℕ → ℕ = occ (set (set hs a 0) b 0) in
-      let h = sound-held p s in
-      let z = lastOf (length cs) cs x in
-      let ds : List Cell = setNext cs z y in
-      let wa′ : ListAt cs x l = subst (λ u. ListAt cs u l) ex wa in
-      let hs′ : List ℕ = set (set hs a x) b 0 in
-      let q : Pool = record { free = p .free; holders = hs′; cells = ds } in
-      let g : Joined (p .free) cs x l m r none-aside ds = joins (p .free) y m l cs x z r none-aside
-      (reroot (p .free) cs (occ hs) none-aside (λ d. same x d + same y d + r d) none-aside h
-      (λ d n. omega (arith, occ-both hs a b 0 0 la lb ab d, ap (λ u. same u d) ex, ap (λ u. same u d) ey, same-ne 0 d (λ q. n (sym q)))) (λ d. refl))
-      wa′ (subst (λ u. Alone cs u l) ex (o (omega arith))) (last-is l (length cs) cs x wa′ (omega arith) (omega (arith, len-le (p .free) cs (occ hs) none-aside h l x wa′)))
-      (subst (λ u. ListAt cs u m) ey wb) in
-      record {
-        sound = held-sound q (reroot (p .free) ds (λ d. same x d + r d) none-aside (occ hs′) none-aside (g .held)
-            (λ d n. omega (arith, occ-both hs a b 0 0 la lb ab d, occ-both hs a b x 0 la lb ab d, same-ne 0 d (λ q. n (sym q)))) (λ d. refl));
-        gets = subst (λ u. ListAt ds u (joined l m)) (sym (both-a hs a b x 0 la lb ab)) (g .gets);
-        null = both-b hs a b x 0 la lb ab;
-        others = λ k n e w. subst (λ u. ListAt ds u n) (sym (both-other hs a b x 0 la lb ab k (e .0) (e .1)))
-            (g .others (holder p k) n (subst (λ u. (u ≡ 0) ⊎ (0 < r u)) (both-other hs a b 0 0 la lb ab k (e .0) (e .1)) (root-of (set (set hs a 0) b 0) k)) w);
-      }
-
-  pub conc-does : Conc p a b l m (conc p a b)
-  unfolding conc
-  conc-does = conc-at (holder p a) (holder p b) refl refl
+      gets = (t .live, t .kind ∙ lx .1, subst (λ u. ListAt (setNext cs z y) u e) (sym (t .elem)) (t .stays (elemOf cs x) e (inr named) (lx .2)), t .rest);
+      others = λ c n p w. t .stays c n (beside (at cs x) r c p) w;
+    }

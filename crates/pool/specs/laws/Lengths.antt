@@ -4,7 +4,7 @@ use mathlib.Core.List.{List}
 use Prim.Native.Nat.{ℕ, zero, suc, _+_, _-_}
 use lib.ListN.{length, set, length-set}
 use Rattle.pool.specs.Pool.{Cell, Pool, at, kindOf, countOf, nextOf, counted, followed, setCount, setNext, holder}
-use Rattle.pool.specs.Erase.{Dropping, visit, step, run, total, dropped, stepped}
+use Rattle.pool.specs.Erase.{Dropping, visit, step, dropping, total, dropped, stepped}
 use Rattle.pool.specs.Operations.{share, item, pfa, pfl, decap, adv, borrow, erase, flip, inv, twin, withTwin, copy, cinv, lastOf, concAt, conc}
 use Rattle.pool.specs.Script.{Operation, effect}
 use Rattle.pool.specs.laws.Edit.{put-length}
@@ -39,14 +39,14 @@ step-length f cs zero zero n = refl
 step-length f cs zero (suc j) n = put-length cs (suc j) (followed (at cs (suc j)) f)
 step-length f cs (suc i) b n = visit-length f cs (suc i) b n (countOf cs (suc i) - 1) (kindOf cs (suc i))
 
-run-length : (k : ℕ) (w : Dropping) → length (run k w .cells) ≡ length (w .cells)
-unfolding run
-run-length zero w = refl
-run-length (suc k) w = run-length k (stepped w) ∙ step-length (w .free) (w .cells) (w .here) (w .waiting) (w .freed)
+dropping-length : (k : ℕ) (w : Dropping) → length (dropping k w .cells) ≡ length (w .cells)
+unfolding dropping
+dropping-length zero w = refl
+dropping-length (suc k) w = dropping-length k (stepped w) ∙ step-length (w .free) (w .cells) (w .here) (w .waiting) (w .freed)
 
 dropped-length : (f : ℕ) (cs : List Cell) (x : ℕ) → length (dropped f cs x .cells) ≡ length cs
 unfolding dropped
-dropped-length f cs x = run-length (total cs + total cs) (record { free = f; cells = cs; here = x; waiting = 0; freed = 0 })
+dropped-length f cs x = dropping-length (total cs + total cs) (record { free = f; cells = cs; here = x; waiting = 0; freed = 0 })
 
 flip-length : (k : ℕ) (cs : List Cell) (x y : ℕ) → length (flip k cs x y .0) ≡ length cs
 unfolding flip

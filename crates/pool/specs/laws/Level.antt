@@ -18,7 +18,7 @@ use Rattle.pool.specs.laws.Edit.{live-cell}
 use Rattle.pool.specs.laws.Reach.{len-le}
 use Rattle.pool.specs.laws.SoundLaws.{none-aside, sound-held, denoted}
 use Rattle.pool.specs.laws.Inverse.{Alone}
-use Rattle.pool.specs.laws.Join.{lastOf-end, lastOf-next}
+use Rattle.pool.specs.laws.LastCell.{lastOf-end, lastOf-next}
 
 -- from c on there are n live cells, and then null
 unfoldable pub Level : ℕ → List Cell → ℕ → Type 0

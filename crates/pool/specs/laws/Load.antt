@@ -12,7 +12,9 @@ use Rattle.pool.specs.laws.TallyLaws.{same-eq, same-ne}
 use Rattle.pool.specs.Pool.{Cell, Pool, at, put, countOf, nextOf, counted, holder, Live, ListAt, gives, lives, Sound}
 use Rattle.pool.specs.Operations.{Made, load, read}
 use Rattle.pool.specs.laws.Edit.{put-length, put-same}
-use Rattle.pool.specs.laws.Held.{Held, reroot, ifLive-pos, ifLive-zero, gives-atom, gives-list, aside-cell, take, fill}
+use Rattle.pool.specs.laws.Held.{Held, reroot}
+use Rattle.pool.specs.laws.Arrows.{ifLive-pos, ifLive-zero, gives-atom, gives-list}
+use Rattle.pool.specs.laws.HeldSteps.{aside-cell, take, fill}
 use Rattle.pool.specs.laws.Reach.{upto, upto-add, upto-same}
 use Rattle.pool.specs.laws.Frame.{Kept, Kept-trans, put-cases, put-lives, ListAt-grown}
 use Rattle.pool.specs.laws.SoundLaws.{none-aside, sound-held, held-sound}

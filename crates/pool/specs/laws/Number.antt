@@ -9,7 +9,7 @@ use lib.ListN.{length}
 use Rattle.lists.specs.Lst.{len}
 use Rattle.pool.specs.Tally.{tally, Number, start, hit, miss}
 use Rattle.pool.specs.Pool.{Cell, at, countOf, Live, ifLive, lives}
-use Rattle.pool.specs.laws.Held.{ifLive-pos, ifLive-zero}
+use Rattle.pool.specs.laws.Arrows.{ifLive-pos, ifLive-zero}
 use Rattle.pool.specs.laws.Reach.{upto}
 use Rattle.pool.specs.laws.Frame.{Kept}
 

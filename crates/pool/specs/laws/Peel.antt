@@ -11,7 +11,8 @@ use Rattle.pool.specs.Tally.{same}
 use Rattle.pool.specs.laws.TallyLaws.{same-eq, same-ne}
 use Rattle.pool.specs.Pool.{Cell, at, put, countOf, counted, setCount, Live, InPool, gives, sends, StepOf, Step, Walk}
 use Rattle.pool.specs.laws.Edit.{put-length, live-cell, put-put, put-at}
-use Rattle.pool.specs.laws.Held.{Acyclic, Law, Walk-map, sends-live, sends-free, gives-counted, step-into, put-acyclic, source-acyclic, put-law}
+use Rattle.pool.specs.laws.Held.{Acyclic, Law, put-acyclic, source-acyclic, put-law}
+use Rattle.pool.specs.laws.Arrows.{Walk-map, sends-live, sends-free, gives-counted, step-into}
 use Rattle.pool.specs.laws.Reach.{rooted}
 use Rattle.pool.specs.laws.Frame.{put-cases}
 

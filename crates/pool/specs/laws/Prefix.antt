@@ -10,7 +10,7 @@ use Rattle.pool.specs.Tally.{occ}
 use Rattle.pool.specs.laws.TallyLaws.{same-ne}
 use Rattle.pool.specs.Pool.{Cell, Pool, put, holder, ListAt, Sound}
 use Rattle.pool.specs.Operations.{pfa, pfl}
-use Rattle.pool.specs.laws.Held.{gives-atom, gives-list}
+use Rattle.pool.specs.laws.Arrows.{gives-atom, gives-list}
 use Rattle.pool.specs.laws.Frame.{ListAt-grown}
 use Rattle.pool.specs.laws.SoundLaws.{sound-held, held-sound}
 use Rattle.pool.specs.laws.Holders.{but, occ-take, occ-give, both, occ-both, both-a, both-b, both-other}

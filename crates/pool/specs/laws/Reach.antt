@@ -16,7 +16,8 @@ use Rattle.pool.specs.laws.TallyLaws.{same-eq, same-ne, Same, eq, ne, sa
 use Rattle.pool.specs.Pool.{Cell, at, kindOf, elemOf, countOf, nextOf, Live, NullOrLive, ListAt, gives, sends, StepOf, Step, Walk, into}
 use Rattle.pool.specs.Operations.{item, listFrom}
 use Rattle.pool.specs.laws.Edit.{find-tally, live-cell}
-use Rattle.pool.specs.laws.Held.{Acyclic, Law, Held, Walk-snoc, sends-live, sends-free, step-live}
+use Rattle.pool.specs.laws.Held.{Acyclic, Law, Held, step-live}
+use Rattle.pool.specs.laws.Arrows.{Walk-snoc, sends-live, sends-free}
 
 -- pigeons: a list with no number twice and all of them from 1 to n is no longer than n
 

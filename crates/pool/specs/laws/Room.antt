@@ -10,7 +10,8 @@ use Rattle.pool.specs.Tally.{same, tally, occ}
 use Rattle.pool.specs.laws.TallyLaws.{same-eq, same-ne, same-of, same-pos}
 use Rattle.pool.specs.Pool.{Cell, countOf, Chain, mark, lives, frees}
 use Rattle.pool.specs.laws.Edit.{mark-cell}
-use Rattle.pool.specs.laws.Held.{Held, ifLive-pos, ifLive-zero}
+use Rattle.pool.specs.laws.Held.{Held}
+use Rattle.pool.specs.laws.Arrows.{ifLive-pos, ifLive-zero}
 use Rattle.pool.specs.laws.Reach.{upto}
 use Rattle.pool.specs.laws.Number.{tally-upto}
 use Rattle.pool.specs.laws.SoundLaws.{none-aside}

@@ -13,7 +13,7 @@ use Rattle.answers.specs.Answers.{DONE, CODE, HOLDER, SAME, NULL, OCCUPIED, SHA
 use Rattle.pool.specs.Tally.{occ}
 use Rattle.pool.specs.Pool.{Pool, at, countOf, holder, frees, Sound}
 use Rattle.pool.specs.Operations.{pfa, pfl, decap, adv, borrow, inv, cinv, conc, lengthOf, sharedAt}
-use Rattle.pool.specs.Script.{PFA, PFL, DECAP, ADV, BORROW, INV, CINV, CONC, Operation, usesB, badCode, badHolder, sameHolder, nullList, occupied, sharedCells, noRoom, refusal, effect, after, Run, performed}
+use Rattle.pool.specs.Script.{PFA, PFL, DECAP, ADV, BORROW, INV, CINV, CONC, Operation, usesB, badCode, badHolder, sameHolder, nullList, occupied, sharedCells, noRoom, refusal, effect, poolAfter, Run, performed}
 use Rattle.pool.specs.laws.SoundLaws.{sound-held, denoted}
 use Rattle.pool.specs.laws.EraseLaws.{erases}
 use Rattle.pool.specs.laws.Prefix.{pfa-does, pfl-does}
@@ -23,7 +23,7 @@ use Rattle.pool.specs.laws.Advance.{holder-live, adv-does}
 use Rattle.pool.specs.laws.Inverse.{inv-does}
 use Rattle.pool.specs.laws.Room.{room, no-room, frees-lives}
 use Rattle.pool.specs.laws.Copy.{cinv-does}
-use Rattle.pool.specs.laws.Join.{conc-does}
+use Rattle.pool.specs.laws.Conc.{conc-does}
 use Rattle.pool.specs.laws.Level.{length-is, both-false, alone}
 use Rattle.pool.specs.laws.ByCode.{either-way, by-code}
 use Rattle.pool.specs.laws.Lengths.{Alike, alike-refl, alike-trans, effect-alike}
@@ -144,13 +144,9 @@ module _ (p : Pool) (o : Operation) (s : Sound p) (h : Allowed p o) where
   pub effect-sound : Sound (effect p o .pool)
   effect-sound = by-code Sound p o sound-pfa sound-pfl sound-decap sound-adv sound-borrow (λ e. erases p (o .a) s .sound) sound-inv sound-cinv sound-conc s
 
-pub after-sound : (p : Pool) (o : Operation) → Sound p → Sound (after p o)
-unfolding after
+pub after-sound : (p : Pool) (o : Operation) → Sound p → Sound (poolAfter p o)
+unfolding poolAfter
 after-sound p o s = either-way Sound (eqb (refusal p o) DONE) (effect p o .pool) p (λ e. effect-sound p o s (allowed p o (eqb-true (refusal p o) DONE e))) (λ e. s)
-
-pub after-alike : (p : Pool) (o : Operation) → Alike p (after p o)
-unfolding after
-after-alike p o = either-way (Alike p) (eqb (refusal p o) DONE) (effect p o .pool) p (λ e. effect-alike p o) (λ e. alike-refl p)
 
 -- a whole script
 

@@ -13,7 +13,8 @@ use Rattle.pool.specs.Tally.{same, tally, occ}
 use Rattle.pool.specs.laws.TallyLaws.{same-eq, same-ne, same-pos, tally-ge, tally-find}
 use Rattle.pool.specs.Pool.{Cell, Pool, kindOf, elemOf, countOf, nextOf, holder, Live, NullOrLive, ListAt, ifLive, gives, sends, byNext, byElem, Walk, Reaches, Sound, into}
 use Rattle.pool.specs.laws.Edit.{live-cell}
-use Rattle.pool.specs.laws.Held.{Held, ifLive-pos, ifLive-zero, root-live}
+use Rattle.pool.specs.laws.Held.{Held, root-live}
+use Rattle.pool.specs.laws.Arrows.{ifLive-pos, ifLive-zero}
 use Rattle.pool.specs.laws.Reach.{into-step, next-ok, elem-ok, rooted, list-of}
 
 abbrev pub none-aside : ℕ → ℕ

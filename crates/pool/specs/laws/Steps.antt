@@ -9,7 +9,8 @@ use Rattle.pool.specs.laws.TallyLaws.{same-eq, same-ne}
 use Rattle.pool.specs.Pool.{Cell, at, put, countOf, nextOf, counted, followed, setCount, setNext, Live, NullOrLive, InPool, gives}
 use Rattle.pool.specs.Operations.{share}
 use Rattle.pool.specs.laws.Edit.{put-same, live-cell}
-use Rattle.pool.specs.laws.Held.{Held, reroot, raise, unlock, aside-cell, shelve, take, fill}
+use Rattle.pool.specs.laws.Held.{Held, reroot}
+use Rattle.pool.specs.laws.HeldSteps.{raise, unlock, aside-cell, shelve, take, fill}
 use Rattle.pool.specs.laws.Frame.{Kept, Kept-trans, put-cases, kept-count, kept-free}
 use Rattle.pool.specs.laws.SoundLaws.{none-aside}
 

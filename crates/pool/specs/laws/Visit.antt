@@ -7,9 +7,9 @@ use native.Mathlib.Nat.{zero-add}
 use native.Mathlib.Omega.{arith}
 use Rattle.pool.specs.Tally.{same}
 use Rattle.pool.specs.Pool.{Cell, kindOf, elemOf, countOf, nextOf, setCount, setNext}
-use Rattle.pool.specs.Erase.{Dropping, visit, step, run, total, dropped, stepped}
+use Rattle.pool.specs.Erase.{Dropping, visit, step, dropping, total, dropped, stepped}
 use Rattle.pool.specs.laws.Held.{Held}
-use Rattle.pool.specs.laws.Drop.{stopped, dropped-done, run-step, run-stop}
+use Rattle.pool.specs.laws.DropRun.{stopped, dropped-done, dropping-step, dropping-stop}
 
 pub step-at : (f : ℕ) (cs : List Cell) (x b n : ℕ) → 1 ≤ x → step f cs x b n ≡ visit f cs x b n (countOf cs x - 1) (kindOf cs x)
 unfolding step
@@ -44,27 +44,27 @@ dropping-path pf pc px pb pn = λ i. record { free = pf i; cells = pc i; here = 
 -- some steps from w lead to v
 pub record Leads (w v : Dropping) : Type 0 where
   pub steps : ℕ
-  pub joins : (k : ℕ) → run (steps + k) w ≡ run k v
+  pub joins : (k : ℕ) → dropping (steps + k) w ≡ dropping k v
 
 pub stay : (w : Dropping) → Leads w w
-stay w = record { steps = 0; joins = λ k. ap (λ (j : ℕ). run j w) (zero-add k) }
+stay w = record { steps = 0; joins = λ k. ap (λ (j : ℕ). dropping j w) (zero-add k) }
 
 pub once : (w v : Dropping) → stepped w ≡ v → Leads w v
 once w v e =
     let one : (k : ℕ) → 1 + k ≡ suc k = λ k. omega arith in
-    record { steps = 1; joins = λ k. ap (λ (j : ℕ). run j w) (one k) ∙ run-step k w ∙ ap (run k) e }
+    record { steps = 1; joins = λ k. ap (λ (j : ℕ). dropping j w) (one k) ∙ dropping-step k w ∙ ap (dropping k) e }
 
 pub onward : {w v u : Dropping} → Leads w v → Leads v u → Leads w u
 onward {w} l g =
     let joined : (k : ℕ) → l .steps + g .steps + k ≡ l .steps + (g .steps + k) = λ k. omega arith in
-    record { steps = l .steps + g .steps; joins = λ k. ap (λ (j : ℕ). run j w) (joined k) ∙ l .joins (g .steps + k) ∙ g .joins k }
+    record { steps = l .steps + g .steps; joins = λ k. ap (λ (j : ℕ). dropping j w) (joined k) ∙ l .joins (g .steps + k) ∙ g .joins k }
 
-run-add : (j k : ℕ) (w : Dropping) → run (j + k) w ≡ run k (run j w)
-unfolding run
-run-add zero k w = ap (λ (j : ℕ). run j w) (zero-add k)
-run-add (suc j) k w =
+dropping-add : (j k : ℕ) (w : Dropping) → dropping (j + k) w ≡ dropping k (dropping j w)
+unfolding dropping
+dropping-add zero k w = ap (λ (j : ℕ). dropping j w) (zero-add k)
+dropping-add (suc j) k w =
     let e : suc j + k ≡ suc (j + k) = omega arith in
-    ap (λ (i : ℕ). run i w) e ∙ run-add j k (stepped w)
+    ap (λ (i : ℕ). dropping i w) e ∙ dropping-add j k (stepped w)
 
 pub at-end : (w : Dropping) → w .here ≡ 0 → w .waiting ≡ 0 → stopped w ≡ w
 at-end w e g = λ i. record { free = w .free; cells = w .cells; here = sym e i; waiting = sym g i; freed = w .freed }
@@ -77,4 +77,4 @@ dropped-is r f cs x v h l e g =
     let n : ℕ = total cs + total cs in
     let d = dropped-done r f cs x h in
     let swap : l .steps + n ≡ n + l .steps = omega arith in
-    sym (at-end (run n w) (d .1) (d .2)) ∙ sym (run-stop (l .steps) (run n w) (d .1) (d .2)) ∙ sym (run-add n (l .steps) w) ∙ ap (λ (j : ℕ). run j w) (sym swap) ∙ l .joins n ∙ run-stop n v e g ∙ at-end v e g
+    sym (at-end (dropping n w) (d .1) (d .2)) ∙ sym (dropping-stop (l .steps) (dropping n w) (d .1) (d .2)) ∙ sym (dropping-add n (l .steps) w) ∙ ap (λ (j : ℕ). dropping j w) (sym swap) ∙ l .joins n ∙ dropping-stop n v e g ∙ at-end v e g

@@ -14,7 +14,7 @@ use Rattle.pool.specs.laws.Edit.{put-length, put-same, put-other, live-cell}
 use Rattle.pool.specs.laws.Held.{reroot}
 use Rattle.pool.specs.laws.Holders.{occ-take, both}
 use Rattle.pool.specs.laws.Room.{frees-lives}
-use Rattle.pool.specs.laws.Drop.{drops}
+use Rattle.pool.specs.laws.DropRun.{drops}
 use Rattle.pool.specs.laws.SoundLaws.{none-aside, sound-held, denoted}
 use Rattle.pool.specs.laws.Advance.{holder-live, lends}
 use Rattle.pool.specs.laws.Level.{length-is}

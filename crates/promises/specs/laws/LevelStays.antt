@@ -10,7 +10,7 @@ use lib.Seq.{set-out}
 use Rattle.pool.specs.Pool.{Cell, at, kindOf, elemOf, nextOf, followed, setNext}
 use Rattle.pool.specs.laws.Edit.{put-same, put-other}
 use Rattle.pool.specs.Operations.{flip, lastOf}
-use Rattle.pool.specs.laws.Join.{lastOf-end, lastOf-next}
+use Rattle.pool.specs.laws.LastCell.{lastOf-end, lastOf-next}
 use Rattle.promises.specs.Grounds.{onward}
 
 -- S of cell x set to y

@@ -22,7 +22,7 @@ use Rattle.pool.specs.laws.Advance.{adv-does}
 use Rattle.pool.specs.laws.Inverse.{inv-does}
 use Rattle.pool.specs.laws.Room.{frees-lives}
 use Rattle.pool.specs.laws.Copy.{cinv-does}
-use Rattle.pool.specs.laws.Join.{conc-does}
+use Rattle.pool.specs.laws.Conc.{conc-does}
 use Rattle.pool.specs.laws.Level.{length-is, both-false, alone}
 use Rattle.pool.specs.laws.ScriptLaws.{Allowed, a-holder, b-holder, some-free, own-head}
 use Rattle.promises.specs.Grounds.{BadCode}

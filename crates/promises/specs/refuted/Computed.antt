@@ -2,9 +2,9 @@
 use Rattle.pool.specs.Tally.{same, tally}
 use Rattle.pool.specs.Pool.{mark, frees, lives, ifLive, gives, sends}
 use Rattle.pool.specs.Check.{check, peeled?, turns, popped, pop, arrow, meet, lowered, named, chained}
-use Rattle.pool.specs.Erase.{visit, step, run, total, dropped}
+use Rattle.pool.specs.Erase.{visit, step, dropping, total, dropped}
 use Rattle.pool.specs.Operations.{laid, fresh, share, itemOf, pfa, decap, borrow, erase, flip, inv, lastOf, concAt, conc, span, anyShared}
-use Rattle.pool.specs.Script.{refusal, effect, after, performed}
+use Rattle.pool.specs.Script.{refusal, effect, poolAfter, performed}
 use Rattle.table.specs.Tab.{tab}
 use Rattle.table.specs.View.{cellWord, view, cellOf, words, spread}
 use Rattle.table.specs.Sizes.{cellsOf}
@@ -14,5 +14,5 @@ use Rattle.promises.specs.Machine.{assign, turn, turnAll}
 use Rattle.promises.specs.refuted.WrongEngines.{performedBy, ranBy, stepping, countsRight}
 
 unfoldable pub computed : Unit {0}
-unfolding same tally mark frees lives ifLive gives sends check peeled? turns popped pop arrow meet lowered named chained visit step run total dropped laid fresh share itemOf pfa decap borrow erase flip inv lastOf concAt conc span anyShared refusal effect after performed tab view cellOf cellWord words spread cellsOf setUp operations ranIn turn assign turnAll performedBy ranBy stepping countsRight
+unfolding same tally mark frees lives ifLive gives sends check peeled? turns popped pop arrow meet lowered named chained visit step dropping total dropped laid fresh share itemOf pfa decap borrow erase flip inv lastOf concAt conc span anyShared refusal effect poolAfter performed tab view cellOf cellWord words spread cellsOf setUp operations ranIn turn assign turnAll performedBy ranBy stepping countsRight
 computed = tt

@@ -11,7 +11,7 @@ use Rattle.pool.specs.Pool.{Pool, countOf, nextOf, setCount, setNext, holder, f
 use Rattle.pool.specs.Erase.{Dropping, step, total}
 use Rattle.pool.specs.Operations.{decap, inv}
 use Rattle.pool.specs.Check.{check, chained}
-use Rattle.pool.specs.Script.{PFA, DECAP, BORROW, ERASE, INV, CINV, CONC, Operation, Effect, Run, refusal, effect, tellsFirst, tellsNumber, tellsNothing, stops, goesOn, after, performed}
+use Rattle.pool.specs.Script.{PFA, DECAP, BORROW, ERASE, INV, CINV, CONC, Operation, Effect, Run, refusal, effect, tellsFirst, tellsNumber, tellsNothing, stops, goesOn, poolAfter, performed}
 use Rattle.setup.specs.SetUp.{setUp, setUpIn}
 use Rattle.calls.specs.Entry.{badTable, badWork, shown, used}
 use Rattle.calls.specs.Run.{Ran, operations, badScript, badResults, notRun, ranTo, ran}
@@ -103,7 +103,7 @@ ruled f g = running (ranBy check (performedBy f g))
 
 -- passes over a refused operation: the answer and the number done are right, and the later ones are done too
 abbrev pub goesOnRefused : Engine
-goesOnRefused = leaving (λ ts ws ss rs. ranBy check (performedBy (λ p o. DONE) (λ p o. tellsNothing (after p o))) ts ws ss rs .table)
+goesOnRefused = leaving (λ ts ws ss rs. ranBy check (performedBy (λ p o. DONE) (λ p o. tellsNothing (poolAfter p o))) ts ws ss rs .table)
 
 -- does its work, and has one answer for every operation: nothing to say
 abbrev pub constantAnswer : Engine

@@ -7,7 +7,7 @@ use native.Mathlib.Omega.{arith}
 use lib.ListN.{length}
 use Rattle.lists.specs.Lst.{Lst, nil, atom, list, extent}
 use Rattle.pool.specs.laws.Edit.{put-length, put-same, put-other, put-put, put-comm}
-use Rattle.pool.specs.laws.Held.{Chain-frame}
+use Rattle.pool.specs.laws.Arrows.{Chain-frame}
 use Rattle.pool.specs.Operations.{Made, load}
 use Rattle.pool.specs.Pool.{at, Cell, put, kindOf, countOf, nextOf, followed, setNext, Chain}
 use Rattle.pool.specs.Tally.{same, tally, occ}

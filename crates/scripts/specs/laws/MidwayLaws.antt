@@ -16,7 +16,7 @@ use Rattle.ops.specs.Replies.{Gives}
 use Rattle.ops.specs.laws.ReplyLaws.{Did, did, stopped}
 use Rattle.ops.specs.declared.Reply.the-variants.{Done, Refused}
 use Rattle.pool.specs.Pool.{Pool, Sound}
-use Rattle.pool.specs.Script.{Operation, Effect, Run, refusal, effect, after, stops, goesOn, performed}
+use Rattle.pool.specs.Script.{Operation, Effect, Run, refusal, effect, poolAfter, stops, goesOn, performed}
 use Rattle.pool.specs.laws.ScriptLaws.{after-sound}
 use Rattle.scripts.specs.Midway.{operationAt, written, left, resumed, Midway}
 use Rattle.scripts.specs.Performs.{Performs}
@@ -88,12 +88,12 @@ begun s ss rs ts t o = record { table = t; sound = o; whole = run-path refl refl
 module _ {s : Shape} {ss rs₀ : List ℕ} {q : Run} {ts rs : List ℕ} {i : ℕ} (m : Midway s ss rs₀ q ts rs i) where
   pub onward : {us : List ℕ} {k w : ℕ} → 4 * i + 4 ≤ length ss → 2 * i + 2 ≤ length rs → Gives s us (Done k w) (view s ts) (operationAt ss i)
       → Midway s ss rs₀ q us (written rs i k w) (i + 1)
-  unfolding after
+  unfolding poolAfter
   onward {us} {k} {w} ls lr g =
       let p = view s ts in
       let o : Operation = operationAt ss i in
       let d : Did p o k w = did p o k w (g .told) in
-      let is : after p o ≡ effect p o .pool = rw (d .done) refl in
+      let is : poolAfter p o ≡ effect p o .pool = rw (d .done) refl in
       record {
         table = g .table;
         sound = subst Sound (sym (g .is)) (after-sound p o (m .sound));
@@ -115,13 +115,13 @@ module _ {s : Shape} {ss rs₀ : List ℕ} {q : Run} {ts rs : List ℕ} {i : ℕ
 
   -- operation i is refused: nothing has changed
   pub refused-at : {us : List ℕ} {k : ℕ} → 4 * i + 4 ≤ length ss → 2 * i ≤ length rs → Gives s us (Refused k) (view s ts) (operationAt ss i) → Performs s rs₀ (outcome k i) us rs q
-  unfolding after
+  unfolding poolAfter
   refused-at {us} {k} ls lr g =
       let p = view s ts in
       let o : Operation = operationAt ss i in
       let (e, n) = stopped p o k (g .told) in
       let f : eqb k DONE ≡ false = ne-eqb k DONE (omega arith) in
-      let is : after p o ≡ p = rw (e, f) refl in
+      let is : poolAfter p o ≡ p = rw (e, f) refl in
       let h = ended k (left-refused ss i p k ls e n) lr in
       record { table = record { table = g .table; is = g .is ∙ is ∙ h .table .is }; outcome = h .outcome; results = h .results }
 

@@ -11,9 +11,9 @@ use Rattle.lists.specs.Lst.{extent}
 use Rattle.text.specs.Limits.{levels, recordBytes, textMost, digitsMost, atomsEnd}
 use Rattle.text.specs.Text.{Scan, begin, mayOpen, mayShut, mayPart, mayBegin, isAtom, isOver, Step, mark, fault, State, at, refused, taken, next, run, settle, stepOf, Answer, answer, scanned, verdict, done, refusal}
 use Rattle.text.specs.ListText.{textOf, bare}
-use Rattle.text.specs.Marks.{marksOf, trace, listIn, begun}
+use Rattle.text.specs.Marks.{marksOf, trace, listIn, beginnings}
 use Rattle.text.specs.laws.TextLaws.{by-case}
-use Rattle.text.specs.laws.MarkLaws.{begun-extent}
+use Rattle.text.specs.laws.MarkLaws.{beginnings-extent}
 use Rattle.text.specs.laws.Front.{front}
 use Rattle.text.specs.laws.ReadBack.{read-write}
 
@@ -125,5 +125,5 @@ pub accepted : (s : List ℕ) (m : ℕ) → verdict s ≡ done m
 accepted s m e = read-write s m (taken-run s m e)
 
 -- the elements that begin in a text that is taken, and the outermost "(", are one more than the extent
-pub begun-text : (s : List ℕ) (m : ℕ) → scanned s ≡ done m → begun (trace (at begin 0) s) ≡ extent (listIn s) + 1
-begun-text s m e = ap begun ((read-write s m (scanned-run s m e)) .0) ∙ begun-extent (listIn s)
+pub beginnings-text : (s : List ℕ) (m : ℕ) → scanned s ≡ done m → beginnings (trace (at begin 0) s) ≡ extent (listIn s) + 1
+beginnings-text s m e = ap beginnings ((read-write s m (scanned-run s m e)) .0) ∙ beginnings-extent (listIn s)

@@ -8,7 +8,7 @@ use lib.ListN.{replicate}
 use borrow.Author.Tests.{ne-eqb}
 use Rattle.lists.specs.Lst.{Lst, nil, atom, list, extent}
 use Rattle.text.specs.Text.{State, at, refused, taken, next, run}
-use Rattle.text.specs.Marks.{Mark, opened, shut, value, marksOf, met, trace, push, pushes, begun}
+use Rattle.text.specs.Marks.{Mark, opened, shut, value, marksOf, met, trace, push, pushes, beginnings}
 use Rattle.text.specs.laws.TextLaws.{digit}
 
 pub with-open : (l : Lst) → marksOf true l ≡ opened ∷ marksOf false l
@@ -62,20 +62,20 @@ trace-blanks (suc k) st =
     ap (λ (es : List Mark). es ++ trace (next st 32) (replicate k 32)) (blank-met st) ∙ trace-blanks k (next st 32)
 
 -- the elements that begin
-pub begun-append : (a b : List Mark) → begun (a ++ b) ≡ begun a + begun b
-begun-append [] b = omega arith
-begun-append (opened ∷ a) b = omega (arith, begun-append a b)
-begun-append (shut ∷ a) b = begun-append a b
-begun-append (value v ∷ a) b = omega (arith, begun-append a b)
+pub beginnings-append : (a b : List Mark) → beginnings (a ++ b) ≡ beginnings a + beginnings b
+beginnings-append [] b = omega arith
+beginnings-append (opened ∷ a) b = omega (arith, beginnings-append a b)
+beginnings-append (shut ∷ a) b = beginnings-append a b
+beginnings-append (value v ∷ a) b = omega (arith, beginnings-append a b)
 
-begun-rest : (l : Lst) → begun (marksOf false l) ≡ extent l
+beginnings-rest : (l : Lst) → beginnings (marksOf false l) ≡ extent l
 unfolding extent
-begun-rest nil = refl
-begun-rest (atom v l) = omega (arith, begun-rest l)
-begun-rest (list m l) =
-    let e : begun (marksOf true m) ≡ extent m + 1 = ap begun (with-open m) ∙ ap (λ (n : ℕ). n + 1) (begun-rest m) in
-    omega (arith, begun-append (marksOf true m) (marksOf false l), begun-rest l)
+beginnings-rest nil = refl
+beginnings-rest (atom v l) = omega (arith, beginnings-rest l)
+beginnings-rest (list m l) =
+    let e : beginnings (marksOf true m) ≡ extent m + 1 = ap beginnings (with-open m) ∙ ap (λ (n : ℕ). n + 1) (beginnings-rest m) in
+    omega (arith, beginnings-append (marksOf true m) (marksOf false l), beginnings-rest l)
 
 -- one more than the cells that reading needs: the outermost "(" has none
-pub begun-extent : (l : Lst) → begun (marksOf true l) ≡ extent l + 1
-begun-extent l = ap begun (with-open l) ∙ ap (λ (n : ℕ). n + 1) (begun-rest l)
+pub beginnings-extent : (l : Lst) → beginnings (marksOf true l) ≡ extent l + 1
+beginnings-extent l = ap beginnings (with-open l) ∙ ap (λ (n : ℕ). n + 1) (beginnings-rest l)

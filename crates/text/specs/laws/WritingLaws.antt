@@ -16,7 +16,7 @@ use Rattle.text.specs.Marks.{listIn}
 use Rattle.text.specs.Writing.{usable, depthAfter, tooDeep, judged, deepest}
 use Rattle.text.specs.laws.TextLaws.{by-case}
 use Rattle.text.specs.laws.RoundTrip.{order-pos, write-read}
-use Rattle.text.specs.laws.ReadBack.{body, opens-body}
+use Rattle.text.specs.laws.OpenLists.{body, opens-body}
 use Rattle.text.specs.laws.Accepted.{sized, taken-within, accepted}
 use Rattle.text.specs.laws.Bounds.{limits}
 

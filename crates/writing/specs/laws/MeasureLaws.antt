@@ -6,7 +6,7 @@ use mathlib.Core.List.{List}
 use borrow.Author.Tests.{eq-eqb}
 use Rattle.answers.specs.Answers.{DONE, OUTPUT}
 use Rattle.pool.specs.Pool.{Cell}
-use Rattle.text.specs.laws.ReadBack.{opens-body}
+use Rattle.text.specs.laws.OpenLists.{opens-body}
 use Rattle.text.specs.Writing.{judged}
 use Rattle.writing.specs.declared.walk.Measured.{Measured}
 use Rattle.writing.specs.declared.walk.Walk.{Walk}

@@ -12,7 +12,7 @@ use Rattle.answers.specs.Answers.{DONE}
 use Rattle.calls.specs.Entry.{over}
 use Rattle.pool.specs.Pool.{Cell, kindOf}
 use Rattle.text.specs.Limits.{levels}
-use Rattle.text.specs.laws.ReadBack.{opens-body}
+use Rattle.text.specs.laws.OpenLists.{opens-body}
 use Rattle.text.specs.laws.TextLaws.{decide}
 use Rattle.text.specs.Writing.{judged}
 use Rattle.writing.specs.declared.walk.Walk.{Walk}

@@ -14,7 +14,7 @@ use Rattle.pool.specs.laws.Edit.{live-cell}
 use Rattle.pool.specs.Pool.{Cell, kindOf, elemOf, nextOf, Live, ListAt}
 use Rattle.text.specs.Limits.{levels}
 use Rattle.text.specs.ListText.{items}
-use Rattle.text.specs.laws.ReadBack.{body, opens-body}
+use Rattle.text.specs.laws.OpenLists.{body, opens-body}
 use Rattle.text.specs.laws.WritingLaws.{Plain, plain-append, plain-octal, judged-plain}
 use Rattle.writing.specs.Numeral.{numeral}
 use Rattle.writing.specs.Steps.{comma}

@@ -15,7 +15,7 @@ use Rattle.table.specs.declared.Shape.{Shape}
 use Rattle.table.specs.View.{IsCell}
 use Rattle.text.specs.Limits.{levels, textMost}
 use Rattle.text.specs.ListText.{textOf}
-use Rattle.text.specs.laws.ReadBack.{body, opens-body}
+use Rattle.text.specs.laws.OpenLists.{body, opens-body}
 use Rattle.text.specs.Writing.{judged}
 use Rattle.writing.specs.declared.walk.Walk.{Walk}
 use Rattle.writing.specs.Numeral.{numeral}

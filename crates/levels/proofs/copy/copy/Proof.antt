@@ -5,7 +5,8 @@ use mathlib.Core.Path.{_≡_, refl, ap, sym, _∙_}
 use native.Mathlib.Omega.{arith}
 use borrow.Author.Needs.{needs}
 use lib.ListN.{length}
-use Rattle.loops.specs.Loop.{steps, Going, begin, before, again, less, finish}
+use Rattle.loops.specs.Loop.{steps, Going}
+use Rattle.loops.specs.laws.LoopLaws.{begin, before, again, less, finish}
 use Rattle.pool.specs.Operations.{item, Made}
 use Rattle.pool.specs.Pool.{Pool, InPool}
 use Rattle.pool.specs.Setters.{celled, putFree}

@@ -9,7 +9,8 @@ use Rattle.pool.specs.Pool.{Cell, Pool}
 use Rattle.pool.specs.Setters.{celled}
 use Rattle.table.specs.View.{view, Table, IsCell}
 use Rattle.table.specs.laws.ViewLaws.{pool-path}
-use Rattle.loops.specs.Loop.{steps, Going, begin, before, again, less, finish}
+use Rattle.loops.specs.Loop.{steps, Going}
+use Rattle.loops.specs.laws.LoopLaws.{begin, before, again, less, finish}
 use Rattle.levels.specs.Turning.{Turning, turning, over, moved, Sure}
 use Rattle.levels.specs.laws.TurningLaws.{is-flip}
 use Rattle.levels.proofs.invert.turn.Statement.{statement}

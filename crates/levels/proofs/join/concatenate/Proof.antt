@@ -5,7 +5,7 @@ use mathlib.Core.Logic.{_≢_}
 use native.Mathlib.Omega.{arith}
 use lib.ListN.{length}
 use borrow.Author.Needs.{needs}
-use Rattle.cells.specs.Range.{holder-high}
+use Rattle.cells.specs.laws.RangeLaws.{holder-high}
 use Rattle.pool.specs.Pool.{holder}
 use Rattle.pool.specs.Setters.{putNext, putHolder}
 use Rattle.table.specs.View.{view}

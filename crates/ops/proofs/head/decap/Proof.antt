@@ -15,7 +15,7 @@ use Rattle.ops.specs.Replies.{operation}
 use Rattle.pool.specs.Pool.{Pool, countOf, holder, frees}
 use Rattle.pool.specs.Script.{DECAP, effect}
 use Rattle.table.specs.View.{view}
-use Rattle.cells.specs.Range.{holder-head}
+use Rattle.cells.specs.laws.RangeLaws.{holder-head}
 use Rattle.ops.proofs.head.decap.Statement.{statement}
 use Rattle.ops.proofs.head.decap.Tie as tie
 
