@@ -22,7 +22,8 @@ use Rattle.pool.specs.laws.Decap.{item-atom, item-list}
 
 pub record Adv (p : Pool) (a b : ℕ) (q : Pool) : Type 0 where
   pub sound : Sound q
-  pub atoms : (v : ℕ) (l : Lst) → ListAt (p .cells) (holder p a) (atom v l) → (elemOf (p .cells) (holder p a) ≡ v) × ListAt (q .cells) (holder q a) l × (holder q b ≡ 0)
+  pub atoms : (v : ℕ) (l : Lst) → ListAt (p .cells) (holder p a) (atom v l)
+      → (elemOf (p .cells) (holder p a) ≡ v) × ListAt (q .cells) (holder q a) l × (holder q b ≡ 0)
   pub lists : (e l : Lst) → ListAt (p .cells) (holder p a) (list e l) → ListAt (q .cells) (holder q a) l × ListAt (q .cells) (holder q b) e
   pub others : Stay p q (λ i. (i ≢ a) × (i ≢ b))
 
@@ -40,11 +41,13 @@ grown-null cs ds c k (inl e) = inl e
 grown-null cs ds c k (inr l) = inr (k c l .0)
 
 -- element and tail are borrowed for b and a: the old list is one root more
-pub lends : (p : Pool) (a b : ℕ) → Sound p → (la : a < length (p .holders)) (lb : b < length (p .holders)) (ab : a ≢ b) → holder p b ≡ 0 → Live (p .cells) (holder p a)
+pub lends : (p : Pool) (a b : ℕ) → Sound p → (la : a < length (p .holders)) (lb : b < length (p .holders)) (ab : a ≢ b) → holder p b ≡ 0
+    → Live (p .cells) (holder p a)
     → let x = holder p a in
     let e = item (p .cells) x in
     let nx = nextOf (p .cells) x in
-    Shared (p .free) (p .cells) e (λ d. occ (p .holders) d + same e d) × Shared (p .free) (share (p .cells) e) nx (λ d. same x d + occ (both (p .holders) a b nx e la lb ab) d)
+    Shared (p .free) (p .cells) e (λ d. occ (p .holders) d + same e d)
+    × Shared (p .free) (share (p .cells) e) nx (λ d. same x d + occ (both (p .holders) a b nx e la lb ab) d)
 lends p a b s la lb ab nb lx =
     let f = p .free in
     let cs = p .cells in
@@ -69,7 +72,8 @@ holder-live p a s n = go (s .holds a)
     go (inl q) = absurd (n q)
     go (inr l) = l
 
-pub adv-does : (p : Pool) (a b : ℕ) → Sound p → a < length (p .holders) → b < length (p .holders) → a ≢ b → holder p b ≡ 0 → holder p a ≢ 0 → Adv p a b (adv p a b)
+pub adv-does : (p : Pool) (a b : ℕ) → Sound p → a < length (p .holders) → b < length (p .holders) → a ≢ b → holder p b ≡ 0 → holder p a ≢ 0
+    → Adv p a b (adv p a b)
 unfolding adv ListAt
 adv-does p a b s la lb ab nb na =
     let f = p .free in

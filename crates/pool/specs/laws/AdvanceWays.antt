@@ -21,7 +21,8 @@ use Rattle.pool.specs.laws.Advance.{null-or-item, lends}
 use Rattle.pool.specs.laws.Bound.{held-bound, occ-le}
 
 -- an arrow lent to c is given back
-give-back : (f : ℕ) (cs : List Cell) (c b n : ℕ) → NullOrLive cs c → Leads (record { free = f; cells = share cs c; here = c; waiting = b; freed = n }) (record { free = f; cells = cs; here = 0; waiting = b; freed = n })
+give-back : (f : ℕ) (cs : List Cell) (c b n : ℕ) → NullOrLive cs c
+    → Leads (record { free = f; cells = share cs c; here = c; waiting = b; freed = n }) (record { free = f; cells = cs; here = 0; waiting = b; freed = n })
 unfolding share step
 give-back f cs zero b n o = stay (record { free = f; cells = cs; here = 0; waiting = b; freed = n })
 give-back f cs (suc i) b n (inl e) = absurd (omega arith)
@@ -34,7 +35,8 @@ give-back f cs (suc i) b n (inr l) =
     let less : countOf (put cs c y) c - 1 ≡ k = omega (arith, ap (λ (z : Cell). z .count) here) in
     let back : setCount (put cs c y) c k ≡ cs = ap (λ (z : Cell). put (put cs c y) c (counted z k)) here ∙ put-put cs c y (counted y k) ∙ put-at cs c in
     once (record { free = f; cells = put cs c y; here = c; waiting = b; freed = n }) (record { free = f; cells = cs; here = 0; waiting = b; freed = n })
-    (ap (λ (j : ℕ). visit f (put cs c y) c b n j (kindOf (put cs c y) c)) less ∙ visit-shared f (put cs c y) c b n k (kindOf (put cs c y) c) (omega arith) ∙ dropping-path refl back refl refl refl)
+    (ap (λ (j : ℕ). visit f (put cs c y) c b n j (kindOf (put cs c y) c)) less ∙ visit-shared f (put cs c y) c b n k (kindOf (put cs c y) c) (omega arith)
+    ∙ dropping-path refl back refl refl refl)
 
 -- the first cell x, which is neither its own successor nor its own element, with element and tail lent
 module _ (f : ℕ) (cs : List Cell) (x : ℕ) (live : Live cs x) (loose : nextOf cs x ≢ x) (flat : item cs x ≢ x) where
@@ -70,12 +72,14 @@ module _ (f : ℕ) (cs : List Cell) (x : ℕ) (live : Live cs x) (loose : nextOf
   emptied : (ds : List Cell) (v : ℕ) → at ds x ≡ at cs x → InPool ds x → setNext (setCount ds x 0) x v ≡ put ds x (spent v)
   emptied ds v e i =
       let y : Cell = counted (at ds x) 0 in
-      ap (λ (z : Cell). put (put ds x y) x (followed z v)) (put-same ds x y (i .0) (i .1)) ∙ put-put ds x y (followed y v) ∙ ap (λ (z : Cell). put ds x (followed (counted z 0) v)) e
+      ap (λ (z : Cell). put (put ds x y) x (followed z v)) (put-same ds x y (i .0) (i .1)) ∙ put-put ds x y (followed y v)
+      ∙ ap (λ (z : Cell). put ds x (followed (counted z 0) v)) e
 
   lent-without : (v : ℕ) → setNext (setCount lent x 0) x v ≡ share (share (without v) (item cs x)) (nextOf cs x)
   lent-without v =
       let i = live-cell lent x (omega (arith, ap (λ (z : Cell). z .count) same-cell)) in
-      emptied lent v same-cell i ∙ share-put (share cs (item cs x)) (nextOf cs x) x (spent v) loose ∙ ap (λ (ds : List Cell). share ds (nextOf cs x)) (share-put cs (item cs x) x (spent v) flat)
+      emptied lent v same-cell i ∙ share-put (share cs (item cs x)) (nextOf cs x) x (spent v) loose
+      ∙ ap (λ (ds : List Cell). share ds (nextOf cs x)) (share-put cs (item cs x) x (spent v) flat)
 
   module _ (one : countOf cs x ≡ 1) (next-is : NullOrLive cs (nextOf cs x)) (item-is : NullOrLive cs (item cs x)) where
     item-there : (v : ℕ) → NullOrLive (without v) (item cs x)
@@ -100,7 +104,15 @@ module _ (f : ℕ) (cs : List Cell) (x : ℕ) (live : Live cs x) (loose : nextOf
         onward
         (once begun (record { free = x; cells = share (share (without f) (item cs x)) (nextOf cs x); here = nextOf cs x; waiting = 0; freed = 1 })
         (first ∙ visit-atom f lent x 0 0 0 (kindOf cs x) refl atom ∙ dropping-path refl (lent-without f) next-same refl (omega arith)))
-        (subst (λ (ds : List Cell). Leads (record { free = x; cells = share (share (without f) (item cs x)) (nextOf cs x); here = nextOf cs x; waiting = 0; freed = 1 }) (record { free = x; cells = ds; here = 0; waiting = 0; freed = 1 }))
+        (subst (λ (ds : List Cell). Leads
+        (record {
+          free = x;
+          cells = share (share (without f) (item cs x))
+              (nextOf cs x);
+          here = nextOf cs x;
+          waiting = 0;
+          freed = 1;
+        }) (record { free = x; cells = ds; here = 0; waiting = 0; freed = 1 }))
         (ap (share (without f)) none)
         (give-back x (share (without f) (item cs x)) (nextOf cs x) 0 1 (next-there f)))
 
@@ -111,15 +123,18 @@ module _ (f : ℕ) (cs : List Cell) (x : ℕ) (live : Live cs x) (loose : nextOf
         let ds : List Cell = share (without 0) e in
         let there : at ds x ≡ spent 0 = share-other (without 0) e x (λ q. flat (sym q)) ∙ put-same cs x (spent 0) (i .0) (i .1) in
         let turned : setNext ds x f ≡ share (without f) e =
-        ap (λ (z : Cell). put ds x (followed z f)) there ∙ share-put (without 0) e x (spent f) flat ∙ ap (λ (us : List Cell). share us e) (put-put cs x (spent 0) (spent f)) in
+        ap (λ (z : Cell). put ds x (followed z f)) there ∙ share-put (without 0) e x (spent f) flat
+        ∙ ap (λ (us : List Cell). share us e) (put-put cs x (spent 0) (spent f)) in
         onward
         (once begun (record { free = f; cells = share ds (nextOf cs x); here = nextOf cs x; waiting = x; freed = 0 })
         (first ∙ visit-list f lent x 0 0 0 (kindOf cs x) refl (omega arith) ∙ dropping-path refl (lent-without 0) next-same refl refl))
         (onward (give-back f ds (nextOf cs x) x 0 (next-there 0))
         (onward
-        (once (record { free = f; cells = ds; here = 0; waiting = x; freed = 0 }) (record { free = x; cells = share (without f) e; here = e; waiting = 0; freed = 1 })
+        (once (record { free = f; cells = ds; here = 0; waiting = x; freed = 0 })
+        (record { free = x; cells = share (without f) e; here = e; waiting = 0; freed = 1 })
         (step-pop f ds 0 x 0 refl (i .0)
-        ∙ dropping-path refl turned (ap (λ (z : Cell). z .elem) there ∙ sym (item-list (kindOf cs x) (elemOf cs x) list)) (ap (λ (z : Cell). z .next) there) (omega arith)))
+        ∙ dropping-path refl turned (ap (λ (z : Cell). z .elem) there ∙ sym (item-list (kindOf cs x) (elemOf cs x) list))
+        (ap (λ (z : Cell). z .next) there) (omega arith)))
         (give-back x (without f) e 0 1 (item-there f))))
 
 -- nothing reaches itself
@@ -135,7 +150,8 @@ item-apart p x s l q = go (s .kinds x l)
     go (inl e) = omega (arith, live-cell (p .cells) x l .0, sym q ∙ item-atom (kindOf (p .cells) x) (elemOf (p .cells) x) e)
     go (inr e) = s .acyclic x 0 l (elemOf (p .cells) x, (l, inr (e, refl)), sym (item-list (kindOf (p .cells) x) (elemOf (p .cells) x) e) ∙ q)
 
-module _ (p : Pool) (a b : ℕ) (s : Sound p) (la : a < length (p .holders)) (lb : b < length (p .holders)) (ab : a ≢ b) (nb : holder p b ≡ 0) (lx : Live (p .cells) (holder p a)) where
+module _ (p : Pool) (a b : ℕ) (s : Sound p) (la : a < length (p .holders)) (lb : b < length (p .holders)) (ab : a ≢ b) (nb : holder p b ≡ 0)
+    (lx : Live (p .cells) (holder p a)) where
   abbrev x : ℕ
   x = holder p a
 
@@ -151,7 +167,8 @@ module _ (p : Pool) (a b : ℕ) (s : Sound p) (la : a < length (p .holders)) (lb
   unfolding adv
   adv-is v l e g =
       ap (λ (z : Dropping). record { free = z .free; holders = set (set (p .holders) a (nextOf (p .cells) x)) b (item (p .cells) x); cells = z .cells })
-      (dropped-is (occ (set (set (p .holders) a (nextOf (p .cells) x)) b (item (p .cells) x))) (p .free) (lent (p .free) (p .cells) x lx loose flat) x v (lends p a b s la lb ab nb lx .1 .held) l e g)
+      (dropped-is (occ (set (set (p .holders) a (nextOf (p .cells) x)) b (item (p .cells) x))) (p .free) (lent (p .free) (p .cells) x lx loose flat) x v
+      (lends p a b s la lb ab nb lx .1 .held) l e g)
 
   pub adv-shared : 1 < countOf (p .cells) x → adv p a b ≡ record {
     free = p .free;
@@ -173,7 +190,8 @@ module _ (p : Pool) (a b : ℕ) (s : Sound p) (la : a < length (p .holders)) (lb
       elems : NullOrLive (p .cells) (item (p .cells) x)
       elems = null-or-item (p .cells) x (sound-held p s .kinds x lx) (s .elems x lx)
 
-      go : (kindOf (p .cells) x ≡ 0) ⊎ (kindOf (p .cells) x ≡ 1) → Leads (begun (p .free) (p .cells) x lx loose flat) (ended (p .free) (p .cells) x lx loose flat one nexts elems)
+      go : (kindOf (p .cells) x ≡ 0) ⊎ (kindOf (p .cells) x ≡ 1)
+          → Leads (begun (p .free) (p .cells) x lx loose flat) (ended (p .free) (p .cells) x lx loose flat one nexts elems)
       go (inl e) = leads-atom (p .free) (p .cells) x lx loose flat one nexts elems e
       go (inr e) = leads-list (p .free) (p .cells) x lx loose flat one nexts elems e
 

@@ -55,7 +55,8 @@ count-bound p s c = go (ℕ-discrete c 0)
     go (no n) = omega (arith, held-bound (p .free) (p .cells) (occ (p .holders)) none-aside (sound-held p s) c n, occ-le (p .holders) c)
 
 -- and is less by one at least where a holder is null
-pub count-less : (p : Pool) → Sound p → (b c : ℕ) → b < length (p .holders) → holder p b ≡ 0 → c ≢ 0 → countOf (p .cells) c < length (p .holders) + 2 * length (p .cells)
+pub count-less : (p : Pool) → Sound p → (b c : ℕ) → b < length (p .holders) → holder p b ≡ 0 → c ≢ 0
+    → countOf (p .cells) c < length (p .holders) + 2 * length (p .cells)
 count-less p s b c l e n = omega (arith, held-bound (p .free) (p .cells) (occ (p .holders)) none-aside (sound-held p s) c n, occ-less (p .holders) b c l e n)
 
 -- nor the arrows from cells twice the number of live ones

@@ -61,7 +61,8 @@ sum-tight (suc n) f g h e c l m = go (ℕ-discrete c (suc n)) (sum-tight n f g h
     go (no q) r = r (omega arith)
 
 -- a chain of free cells, as many as there are, holds every free cell once and no other
-pub chain-full : (cs : List Cell) (f : ℕ) (fs : List ℕ) → Chain cs f fs → ((c : ℕ) → 0 < occ fs c → 0 < mark cs c) → length fs + lives cs ≡ length cs → (c : ℕ) → occ fs c ≡ mark cs c
+pub chain-full : (cs : List Cell) (f : ℕ) (fs : List ℕ) → Chain cs f fs → ((c : ℕ) → 0 < occ fs c → 0 < mark cs c) → length fs + lives cs ≡ length cs
+    → (c : ℕ) → occ fs c ≡ mark cs c
 chain-full cs f fs h free number c = go (ℕ-discrete (mark cs c) 0)
   where
     below : (c : ℕ) → occ fs c ≤ mark cs c

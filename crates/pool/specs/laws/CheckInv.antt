@@ -57,7 +57,8 @@ pub record PeelInv (cs : List Cell) (r₀ rest : ℕ → ℕ) (st : Peeling) : T
 gives-alike : (d : ℕ) (x y : Cell) → counted x 0 ≡ counted y 0 → gives d x ≡ gives d y
 gives-alike d x y e = sym (gives-counted d x 0) ∙ ap (gives d) e ∙ gives-counted d y 0
 
-pub meet-inv : (cs : List Cell) (r₀ rest rest′ : ℕ → ℕ) (x : ℕ) (st : Peeling) → PeelInv cs r₀ rest st → ((d : ℕ) → d ≢ 0 → rest d ≡ same x d + rest′ d) → PeelInv cs r₀ rest′ (meet x st)
+pub meet-inv : (cs : List Cell) (r₀ rest rest′ : ℕ → ℕ) (x : ℕ) (st : Peeling) → PeelInv cs r₀ rest st
+    → ((d : ℕ) → d ≢ 0 → rest d ≡ same x d + rest′ d) → PeelInv cs r₀ rest′ (meet x st)
 unfolding meet lowered tally
 meet-inv cs r₀ rest rest′ zero st i q = record {
   size = i .size;
@@ -86,7 +87,9 @@ meet-inv cs r₀ rest rest′ (suc j) st i q = go (countOf (st .cells) (suc j)) 
 
     typed-set : (k : ℕ) (xs : List ℕ) → InPool ds x → st .ok ≡ true → 0 < k + occ xs x → ((c : ℕ) → occ xs c ≡ 0 → occ (st .stack) c ≡ 0)
         → (c : ℕ) → Live cs c → countOf (setCount ds x k) c ≡ 0 → occ xs c ≡ 0 → kindOf cs c ≤ 1
-    typed-set k xs h o l s = put-cases ds x (counted (at ds x) k) h (λ c u. Live cs c → u .count ≡ 0 → occ xs c ≡ 0 → kindOf cs c ≤ 1) (λ m z w. absurd (omega arith)) (λ c m z w. i .typed o c m z (s c w))
+    typed-set k xs h o l s =
+        put-cases ds x (counted (at ds x) k) h (λ c u. Live cs c → u .count ≡ 0 → occ xs c ≡ 0 → kindOf cs c ≤ 1) (λ m z w. absurd (omega arith))
+        (λ c m z w. i .typed o c m z (s c w))
 
     go : (n : ℕ) → countOf ds x ≡ n → PeelInv cs r₀ rest′ (lowered st x n)
     go zero e = record {
@@ -107,7 +110,8 @@ meet-inv cs r₀ rest rest′ (suc j) st i q = go (countOf (st .cells) (suc j)) 
           falls = falls-set 0 h (omega arith);
           waits = λ c o. more c o (same? x c);
           number = omega (arith, i .number, put-lives ds x (counted (at ds x) 0) h, ifLive-pos (countOf ds x) 1 (omega arith), ifLive-zero 0 1 refl);
-          peels = λ o. Peels-then (i .peels o) (away x e (omega (arith, q x (omega arith), same-eq x)) (λ d n. omega (arith, q d n, gives-alike d (at ds x) (at cs x) (i .alike x))) done);
+          peels = λ o. Peels-then (i .peels o)
+              (away x e (omega (arith, q x (omega arith), same-eq x)) (λ d n. omega (arith, q d n, gives-alike d (at ds x) (at cs x) (i .alike x))) done);
           typed = λ o. typed-set 0 (x ∷ st .stack) h o (omega (arith, same-eq x)) (λ c z. omega arith);
           never = i .never;
         }
@@ -138,7 +142,8 @@ gives-arrow d x n = omega (arith, go (eqb (x .kind) 1) (x .elem))
     go true e = refl
     go false e = sym (same-ne 0 d (λ q. n (sym q)))
 
-pub taken-inv : (cs : List Cell) (r₀ rest : ℕ → ℕ) (st : Peeling) (c : ℕ) (xs : List ℕ) → PeelInv cs r₀ rest st → st .stack ≡ c ∷ xs → PeelInv cs r₀ (λ d. gives d (at cs c) + rest d) (taken cs st c xs)
+pub taken-inv : (cs : List Cell) (r₀ rest : ℕ → ℕ) (st : Peeling) (c : ℕ) (xs : List ℕ) → PeelInv cs r₀ rest st → st .stack ≡ c ∷ xs
+    → PeelInv cs r₀ (λ d. gives d (at cs c) + rest d) (taken cs st c xs)
 unfolding tally
 taken-inv cs r₀ rest st c xs i e = record {
   size = i .size;
@@ -148,7 +153,8 @@ taken-inv cs r₀ rest st c xs i e = record {
   number = omega (arith, i .number, ap length e);
   peels = λ o. Peels-then (i .peels (and-both (leb (kindOf cs c) 1) (st .ok) o .1)) (skip (λ d n. omega (arith, ap (λ u. owed cs u d) e)) done);
   typed = λ o d l z w. fine (and-both (leb (kindOf cs c) 1) (st .ok) o) d l z w (same? c d);
-  never = λ law t. and-of (leb (kindOf cs c) 1) (st .ok) (le-leb (kindOf cs c) 1 (t c (i .waits c (omega (arith, ap (λ u. occ u c) e, same-eq c))))) (i .never law t);
+  never = λ law t. and-of (leb (kindOf cs c) 1) (st .ok) (le-leb (kindOf cs c) 1 (t c (i .waits c (omega (arith, ap (λ u. occ u c) e, same-eq c)))))
+      (i .never law t);
 }
   where
     fine : (leb (kindOf cs c) 1 ≡ true) × (st .ok ≡ true) → (d : ℕ) → Live cs d → countOf (st .cells) d ≡ 0 → occ xs d ≡ 0 → Same c d → kindOf cs d ≤ 1
@@ -163,7 +169,8 @@ popped-inv cs r₀ rest st i = go (st .stack) refl
     go [] e = i
     go (c ∷ xs) e =
         meet-inv cs r₀ (λ d. same (nextOf cs c) d + rest d) rest (nextOf cs c) (meet (arrow (at cs c)) (taken cs st c xs))
-        (meet-inv cs r₀ (λ d. gives d (at cs c) + rest d) (λ d. same (nextOf cs c) d + rest d) (arrow (at cs c)) (taken cs st c xs) (taken-inv cs r₀ rest st c xs i e) (λ d n. omega (arith, gives-arrow d (at cs c) n)))
+        (meet-inv cs r₀ (λ d. gives d (at cs c) + rest d) (λ d. same (nextOf cs c) d + rest d) (arrow (at cs c)) (taken cs st c xs)
+        (taken-inv cs r₀ rest st c xs i e) (λ d n. omega (arith, gives-arrow d (at cs c) n)))
         (λ d n. refl)
 
 pub turns-inv : (k : ℕ) (cs : List Cell) (r₀ rest : ℕ → ℕ) (st : Peeling) → PeelInv cs r₀ rest st → PeelInv cs r₀ rest (turns k cs st)
@@ -225,7 +232,8 @@ law-back cs c y inside r r′ law at-c at-others d n = go (ℕ-discrete d c)
 
     go : Dec (d ≡ c) → countOf cs d ≡ r d + into cs d
     go (yes e) =
-        let k : countOf cs c ≡ r c + into cs c = omega (arith, sum c, law c (omega (arith, inside .0)), ap (λ x. x .count) (put-same cs c y (inside .0) (inside .1)), at-c) in
+        let k : countOf cs c ≡ r c + into cs c = omega
+        (arith, sum c, law c (omega (arith, inside .0)), ap (λ x. x .count) (put-same cs c y (inside .0) (inside .1)), at-c) in
         rw e k
     go (no m) = omega (arith, sum d, law d n, ap (λ x. x .count) (put-other cs c d y m), at-others d m n)
 
@@ -235,14 +243,17 @@ Peels-law-back (skip e t) law = let l = Peels-law-back t law in λ d n. omega (a
 Peels-law-back (less {cs = cs} {r = r} {r₁ = r₁} x k e roots t) law =
     let inside = live-cell cs x (omega arith) in
     let y : Cell = counted (at cs x) (suc k) in
-    let alike : (d : ℕ) → sends d y ≡ sends d (at cs x) = λ d. sends-live d y (omega arith) ∙ gives-counted d (at cs x) (suc k) ∙ sym (sends-live d (at cs x) (omega arith)) in
-    law-back cs x y inside r r₁ (Peels-law-back t law) (omega (arith, alike x, roots x (omega (arith, inside .0)), same-eq x)) (λ d n m. omega (arith, alike d, roots d m, same-ne x d (λ q. n (sym q))))
+    let alike : (d : ℕ) → sends d y ≡ sends d (at cs x) = λ d. sends-live d y (omega arith) ∙ gives-counted d (at cs x) (suc k) ∙ sym
+    (sends-live d (at cs x) (omega arith)) in
+    law-back cs x y inside r r₁ (Peels-law-back t law) (omega (arith, alike x, roots x (omega (arith, inside .0)), same-eq x))
+    (λ d n m. omega (arith, alike d, roots d m, same-ne x d (λ q. n (sym q))))
 Peels-law-back (away {cs = cs} {r = r} {r₁ = r₁} x e l roots t) law =
     let inside = live-cell cs x (omega arith) in
     let y : Cell = counted (at cs x) 0 in
     let old : (d : ℕ) → sends d (at cs x) ≡ gives d (at cs x) = λ d. sends-live d (at cs x) (omega arith) in
     let now : (d : ℕ) → sends d y ≡ 0 = λ d. sends-free d y refl in
-    law-back cs x y inside r r₁ (Peels-law-back t law) (omega (arith, old x, now x, roots x (omega (arith, inside .0)), same-eq x)) (λ d n m. omega (arith, old d, now d, roots d m, same-ne x d (λ q. n (sym q))))
+    law-back cs x y inside r r₁ (Peels-law-back t law) (omega (arith, old x, now x, roots x (omega (arith, inside .0)), same-eq x))
+    (λ d n m. omega (arith, old d, now d, roots d m, same-ne x d (λ q. n (sym q))))
 
 -- no cell is live, and none has roots
 dead-law : (ds : List Cell) → ((c : ℕ) → countOf ds c ≡ 0) → Law ds (λ c. 0)
@@ -269,7 +280,8 @@ alive ds z = go (ℕ-discrete (tally (λ x. ifLive (x .count) 1) ds) 0)
     go (no n) = let (c, l) = find-tally (λ x. ifLive (x .count) 1) ds (omega arith) in absurd (omega (arith, ifLive-zero (countOf ds c) 1 (z c)))
 
 -- the stack is empty: what the end says
-pub passed : (cs : List Cell) (r₀ : ℕ → ℕ) (st : Peeling) → PeelInv cs r₀ (λ d. 0) st → st .stack ≡ [] → st .ok ≡ true → st .gone ≡ lives cs → Law cs r₀ × Typed cs × Acyclic cs
+pub passed : (cs : List Cell) (r₀ : ℕ → ℕ) (st : Peeling) → PeelInv cs r₀ (λ d. 0) st → st .stack ≡ [] → st .ok ≡ true → st .gone ≡ lives cs
+    → Law cs r₀ × Typed cs × Acyclic cs
 unfolding tally
 passed cs r₀ st i e o g =
     let z = dead (st .cells) (omega (arith, i .number)) in
@@ -277,7 +289,8 @@ passed cs r₀ st i e o g =
     let law = Peels-law-back t (dead-law (st .cells) z) in
     (law, (λ c l. i .typed o c l (z c) (omega (arith, ap (λ u. occ u c) e))), peeled t law (λ c n. refl) .0 z)
 
-pub passes : (cs : List Cell) (r₀ : ℕ → ℕ) (st : Peeling) → PeelInv cs r₀ (λ d. 0) st → st .stack ≡ [] → Law cs r₀ → Typed cs → Acyclic cs → (st .ok ≡ true) × (st .gone ≡ lives cs)
+pub passes : (cs : List Cell) (r₀ : ℕ → ℕ) (st : Peeling) → PeelInv cs r₀ (λ d. 0) st → st .stack ≡ [] → Law cs r₀ → Typed cs → Acyclic cs
+    → (st .ok ≡ true) × (st .gone ≡ lives cs)
 unfolding tally
 passes cs r₀ st i e law k a =
     let o = i .never law k in

@@ -20,7 +20,8 @@ use Rattle.pool.specs.laws.CheckInv.{and-both, and-of, PeelInv, turns-in
 
 -- the free chain
 
-chained-chain : (n : ℕ) (cs : List Cell) (c : ℕ) → chained n cs c ≡ true → (fs : List ℕ) × Chain cs c fs × ((d : ℕ) → 0 < occ fs d → 0 < mark cs d) × (length fs ≡ n)
+chained-chain : (n : ℕ) (cs : List Cell) (c : ℕ) → chained n cs c ≡ true
+    → (fs : List ℕ) × Chain cs c fs × ((d : ℕ) → 0 < occ fs d → 0 < mark cs d) × (length fs ≡ n)
 unfolding chained Chain tally
 chained-chain zero cs c h = ([], eqb-true c 0 h, (λ d o. absurd (omega arith)), refl)
 chained-chain (suc n) cs c h =
@@ -118,7 +119,8 @@ sound-tested k p e s =
     let i = turns-inv k cs (occ (p .holders)) (λ d. 0) (afterHolders p) (holders-inv p) in
     let (o, g) = passes cs (occ (p .holders)) st i e (h .law) (h .kinds) (h .acyclic) in
     let q : length fs ≡ frees cs = omega (arith, frees-lives cs, sound-chain-length p s) in
-    and-of (chained (frees cs) cs (p .free)) (peeled? cs st) (subst (λ n. chained n cs (p .free) ≡ true) q (chain-chained fs cs (p .free) (s .chain .1) (λ d o. omega (arith, s .chain .2 d))))
+    and-of (chained (frees cs) cs (p .free)) (peeled? cs st)
+    (subst (λ n. chained n cs (p .free) ≡ true) q (chain-chained fs cs (p .free) (s .chain .1) (λ d o. omega (arith, s .chain .2 d))))
     (and-of (st .ok) (eqb (st .gone + frees cs) (length cs)) o (eq-eqb (st .gone + frees cs) (length cs) (omega (arith, frees-lives cs))))
 
 pub check-decides : (p : Pool) → (check p ≡ true) ↔ Sound p

@@ -32,7 +32,8 @@ module _ (p : Pool) (a b : ℕ) (l m : Lst) (s : Sound p) (la : a < length (p .h
   unfolding concAt joined
   conc-at x zero ex ey = record {
     sound = s;
-    gets = subst (λ u. ListAt (p .cells) (holder p a) (joined l u)) (null-list (p .cells) (holder p b) m ey wb) (subst (ListAt (p .cells) (holder p a)) (sym (joined-nil l)) wa);
+    gets = subst (λ u. ListAt (p .cells) (holder p a) (joined l u)) (null-list (p .cells) (holder p b) m ey wb)
+        (subst (ListAt (p .cells) (holder p a)) (sym (joined-nil l)) wa);
     null = ey;
     others = λ i n q w. w;
   }
@@ -62,7 +63,8 @@ module _ (p : Pool) (a b : ℕ) (l m : Lst) (s : Sound p) (la : a < length (p .h
       let g : Joined (p .free) cs x l m r none-aside ds = joins (p .free) y z m l cs x r none-aside
       (reroot (p .free) cs (occ hs) none-aside (λ d. same x d + same y d + r d) none-aside h
       (λ d n. omega (arith, occ-both hs a b 0 0 la lb ab d, ap (λ u. same u d) ex, ap (λ u. same u d) ey, same-ne 0 d (λ q. n (sym q)))) (λ d. refl))
-      wa′ (subst (λ u. Alone cs u l) ex (o (omega arith))) (last-is l (length cs) cs x wa′ (omega arith) (omega (arith, len-le (p .free) cs (occ hs) none-aside h l x wa′)))
+      wa′ (subst (λ u. Alone cs u l) ex (o (omega arith)))
+      (last-is l (length cs) cs x wa′ (omega arith) (omega (arith, len-le (p .free) cs (occ hs) none-aside h l x wa′)))
       (subst (λ u. ListAt cs u m) ey wb) in
       record {
         sound = held-sound q (reroot (p .free) ds (λ d. same x d + r d) none-aside (occ hs′) none-aside (g .held)

@@ -12,7 +12,7 @@ use Rattle.pool.specs.laws.TallyLaws.{same-ne}
 use Rattle.pool.specs.Pool.{Cell, Pool, at, put, elemOf, countOf, nextOf, counted, holder, Live, NullOrLive, ListAt, lives, Sound}
 use Rattle.pool.specs.Operations.{share, item, Made, twin, withTwin, copy, cinv}
 use Rattle.pool.specs.laws.Edit.{put-length, live-cell}
-use Rattle.pool.specs.laws.PoolLaws.{ListAt-unique}
+use Rattle.pool.specs.laws.PoolLaws.{heads-atom, heads-list, ListAt-unique}
 use Rattle.pool.specs.laws.Held.{Held, reroot}
 use Rattle.pool.specs.laws.Arrows.{ifLive-pos, ifLive-zero}
 use Rattle.pool.specs.laws.Reach.{elem-ok, len-le}
@@ -33,7 +33,8 @@ copy-end zero f cs x y e = refl
 copy-end (suc k) f cs zero y e = refl
 copy-end (suc k) f cs (suc i) y e = absurd (omega arith)
 
-pub copy-next : (k f : ℕ) (cs : List Cell) (x y : ℕ) → x ≢ 0 → copy (suc k) f cs x y ≡ copy k (nextOf (share cs (item cs x)) f) (withTwin f cs x y) (nextOf cs x) f
+pub copy-next : (k f : ℕ) (cs : List Cell) (x y : ℕ) → x ≢ 0
+    → copy (suc k) f cs x y ≡ copy k (nextOf (share cs (item cs x)) f) (withTwin f cs x y) (nextOf cs x) f
 unfolding copy
 copy-next k f cs zero y n = absurd (n refl)
 copy-next k f cs (suc i) y n = refl
@@ -46,10 +47,11 @@ share-lives cs (suc i) (inr l) =
     let y : Cell = counted (at cs (suc i)) (suc (countOf cs (suc i))) in
     (omega (arith, put-lives cs (suc i) y (live-cell cs (suc i) l), ifLive-pos (countOf cs (suc i)) 1 l, ifLive-pos (suc (countOf cs (suc i))) 1 (omega arith)), put-length cs (suc i) y)
 
-pub record Copied (cs : List Cell) (l m : Lst) (r : ℕ → ℕ) (z : Made) : Type 0 where
-  pub held : Held (z .free) (z .cells) (λ d. same (z .head) d + r d) none-aside
-  pub gets : ListAt (z .cells) (z .head) (onto l m)
-  pub grown : Kept (z .cells) cs
+-- a copy that stands for n has been made
+record Copied (cs : List Cell) (n : Lst) (r : ℕ → ℕ) (z : Made) : Type 0 where
+  held : Held (z .free) (z .cells) (λ d. same (z .head) d + r d) none-aside
+  gets : ListAt (z .cells) (z .head) n
+  grown : Kept (z .cells) cs
 
 -- one cell of the copy
 pub record One (f : ℕ) (cs : List Cell) (x y : ℕ) (r : ℕ → ℕ) : Type 0 where
@@ -79,46 +81,47 @@ one f cs x y r h l lt =
       long = put-length ds f c ∙ sz;
     }
 
-copies : (r : ℕ → ℕ) (l : Lst) (k f : ℕ) (cs : List Cell) (x y : ℕ) (m : Lst) → len l ≤ k → len l + lives cs ≤ length cs → Held f cs (λ d. same y d + r d) none-aside
-    → ListAt cs x l → ListAt cs y m → Copied cs l m r (copy k f cs x y)
+-- the first cell copied, and then the rest
+copied-first : (n : Lst) (r : ℕ → ℕ) (k f : ℕ) (cs : List Cell) (x y : ℕ) → Live cs x → Kept (withTwin f cs x y) cs
+    → Copied (withTwin f cs x y) n r (copy k (nextOf (share cs (item cs x)) f) (withTwin f cs x y) (nextOf cs x) f)
+    → Copied cs n r (copy (suc k) f cs x y)
+copied-first n r k f cs x y live grown g =
+    let z = copy k (nextOf (share cs (item cs x)) f) (withTwin f cs x y) (nextOf cs x) f in
+    subst (Copied cs n r) (sym (copy-next k f cs x y (omega (arith, live-cell cs x live))))
+    (record { held = g .held; gets = g .gets; grown = Kept-trans (z .cells) (withTwin f cs x y) cs (g .grown) grown })
+
+copies : (r : ℕ → ℕ) (l : Lst) (k f : ℕ) (cs : List Cell) (x y : ℕ) (m : Lst) → len l ≤ k → len l + lives cs ≤ length cs
+    → Held f cs (λ d. same y d + r d) none-aside
+    → ListAt cs x l → ListAt cs y m → Copied cs (onto l m) r (copy k f cs x y)
 unfolding len onto ListAt
 copies r nil k f cs x y m s lt h lx ly =
-    subst (λ u. Copied cs nil m r u) (sym (copy-end k f cs x y lx)) (record { held = h; gets = ly; grown = λ c l. (l, refl) })
+    subst (Copied cs m r) (sym (copy-end k f cs x y lx)) (record { held = h; gets = ly; grown = λ c l. (l, refl) })
 copies r (atom v l) zero f cs x y m s lt h lx ly = absurd (omega arith)
 copies r (list e l) zero f cs x y m s lt h lx ly = absurd (omega arith)
 copies r (atom v l) (suc k) f cs x y m s lt h lx ly =
     let t = one f cs x y r h (lx .0) (omega arith) in
     let ds : List Cell = withTwin f cs x y in
     let on = ListAt-grown cs ds (t .grown) in
-    let g = copies r l k (nextOf (share cs (item cs x)) f) ds (nextOf cs x) f (atom v m) (omega arith) (omega (arith, t .up, t .long)) (t .held)
-    (on l (nextOf cs x) (lx .3)) (
-      subst (λ u. 0 < u .count) (sym (t .here)) (omega arith),
-      ap (λ u. u .kind) (t .here) ∙ lx .1,
-      ap (λ u. u .elem) (t .here) ∙ lx .2,
-      subst (λ u. ListAt ds u m) (sym (ap (λ u. u .next) (t .here))) (on m y ly),
-    ) in
-    subst (λ u. Copied cs (atom v l) m r u) (sym (copy-next k f cs x y (omega (arith, live-cell cs x (lx .0)))))
-    (record { held = g .held; gets = g .gets; grown = Kept-trans (copy k (nextOf (share cs (item cs x)) f) ds (nextOf cs x) f .cells) ds cs (g .grown) (t .grown) })
+    let front = heads-atom ds f (twin cs x y) v m (t .here) (omega arith) (lx .1) (lx .2) (on m y ly) in
+    copied-first (onto l (atom v m)) r k f cs x y (lx .0) (t .grown)
+    (copies r l k (nextOf (share cs (item cs x)) f) ds (nextOf cs x) f (atom v m) (omega arith) (omega (arith, t .up, t .long)) (t .held)
+    (on l (nextOf cs x) (lx .3)) front)
 copies r (list e l) (suc k) f cs x y m s lt h lx ly =
     let t = one f cs x y r h (lx .0) (omega arith) in
     let ds : List Cell = withTwin f cs x y in
     let on = ListAt-grown cs ds (t .grown) in
-    let g = copies r l k (nextOf (share cs (item cs x)) f) ds (nextOf cs x) f (list e m) (omega arith) (omega (arith, t .up, t .long)) (t .held)
-    (on l (nextOf cs x) (lx .3)) (
-      subst (λ u. 0 < u .count) (sym (t .here)) (omega arith),
-      ap (λ u. u .kind) (t .here) ∙ lx .1,
-      subst (λ u. ListAt ds u e) (sym (ap (λ u. u .elem) (t .here))) (on e (elemOf cs x) (lx .2)),
-      subst (λ u. ListAt ds u m) (sym (ap (λ u. u .next) (t .here))) (on m y ly),
-    ) in
-    subst (λ u. Copied cs (list e l) m r u) (sym (copy-next k f cs x y (omega (arith, live-cell cs x (lx .0)))))
-    (record { held = g .held; gets = g .gets; grown = Kept-trans (copy k (nextOf (share cs (item cs x)) f) ds (nextOf cs x) f .cells) ds cs (g .grown) (t .grown) })
+    let front = heads-list ds f (twin cs x y) e m (t .here) (omega arith) (lx .1) (on e (elemOf cs x) (lx .2)) (on m y ly) in
+    copied-first (onto l (list e m)) r k f cs x y (lx .0) (t .grown)
+    (copies r l k (nextOf (share cs (item cs x)) f) ds (nextOf cs x) f (list e m) (omega arith) (omega (arith, t .up, t .long)) (t .held)
+    (on l (nextOf cs x) (lx .3)) front)
 
 pub record Cinv (p : Pool) (a b : ℕ) (q : Pool) : Type 0 where
   pub sound : Sound q
   pub gets : (l : Lst) → ListAt (p .cells) (holder p a) l → ListAt (q .cells) (holder q b) (reversed l)
   pub others : Stay p q (λ i. i ≢ b)
 
-pub cinv-does : (p : Pool) (a b : ℕ) (l : Lst) → Sound p → b < length (p .holders) → holder p b ≡ 0 → ListAt (p .cells) (holder p a) l → len l + lives (p .cells) ≤ length (p .cells) → Cinv p a b (cinv p a b)
+pub cinv-does : (p : Pool) (a b : ℕ) (l : Lst) → Sound p → b < length (p .holders) → holder p b ≡ 0 → ListAt (p .cells) (holder p a) l
+    → len l + lives (p .cells) ≤ length (p .cells) → Cinv p a b (cinv p a b)
 unfolding cinv reversed ListAt
 cinv-does p a b l s lb nb w lt =
     let cs = p .cells in
@@ -126,12 +129,14 @@ cinv-does p a b l s lb nb w lt =
     let x = holder p a in
     let h = sound-held p s in
     let z : Made = copy (length cs) (p .free) cs x 0 in
-    let g : Copied cs l nil (occ hs) z = copies (occ hs) l (length cs) (p .free) cs x 0 nil (len-le (p .free) cs (occ hs) none-aside h l x w) lt
+    let g : Copied cs (onto l nil) (occ hs) z = copies (occ hs) l (length cs) (p .free) cs x 0 nil (len-le (p .free) cs (occ hs) none-aside h l x w) lt
     (reroot (p .free) cs (occ hs) none-aside (λ d. same 0 d + occ hs d) none-aside h (λ d n. omega (arith, same-ne 0 d (λ q. n (sym q)))) (λ d. refl))
     w refl in
     record {
       sound = held-sound (cinv p a b) (reroot (z .free) (z .cells) (λ d. same (z .head) d + occ hs d) none-aside (occ (set hs b (z .head))) none-aside (g .held)
           (λ d n. omega (arith, occ-give hs b (z .head) d lb n, occ-take hs b d lb n, ap (λ u. same u d) nb, same-ne 0 d (λ q. n (sym q)))) (λ d. refl));
-      gets = λ l′ w′. subst (λ u. ListAt (z .cells) u (onto l′ nil)) (sym (getD-set-same hs b (z .head) 0 lb)) (subst (λ u. ListAt (z .cells) (z .head) (onto u nil)) (ListAt-unique cs x l l′ w w′) (g .gets));
-      others = λ i l′ n w′. subst (λ u. ListAt (z .cells) u l′) (sym (getD-set-other hs b i (z .head) 0 n)) (ListAt-grown cs (z .cells) (g .grown) l′ (holder p i) w′);
+      gets = λ l′ w′. subst (λ u. ListAt (z .cells) u (onto l′ nil)) (sym (getD-set-same hs b (z .head) 0 lb))
+          (subst (λ u. ListAt (z .cells) (z .head) (onto u nil)) (ListAt-unique cs x l l′ w w′) (g .gets));
+      others = λ i l′ n w′. subst (λ u. ListAt (z .cells) u l′) (sym (getD-set-other hs b i (z .head) 0 n))
+          (ListAt-grown cs (z .cells) (g .grown) l′ (holder p i) w′);
     }

@@ -20,7 +20,8 @@ use Rattle.pool.specs.laws.Prefix.{Stay}
 
 pub record Decap (p : Pool) (a b : ℕ) (q : Pool) : Type 0 where
   pub sound : Sound q
-  pub atoms : (v : ℕ) (l : Lst) → ListAt (p .cells) (holder p a) (atom v l) → (elemOf (p .cells) (holder p a) ≡ v) × ListAt (q .cells) (holder q a) l × (holder q b ≡ 0)
+  pub atoms : (v : ℕ) (l : Lst) → ListAt (p .cells) (holder p a) (atom v l)
+      → (elemOf (p .cells) (holder p a) ≡ v) × ListAt (q .cells) (holder q a) l × (holder q b ≡ 0)
   pub lists : (e l : Lst) → ListAt (p .cells) (holder p a) (list e l) → ListAt (q .cells) (holder q a) l × ListAt (q .cells) (holder q b) e
   pub others : Stay p q (λ i. (i ≢ a) × (i ≢ b))
 
@@ -43,7 +44,8 @@ gives-item cs x d k n = go (ℕ-discrete (kindOf cs x) 0)
         let one : kindOf cs x ≡ 1 = omega arith in
         omega (arith, gives-list d (at cs x) one, ap (λ u. same u d) (item-list (kindOf cs x) (elemOf cs x) one))
 
-pub decap-does : (p : Pool) (a b : ℕ) → Sound p → a < length (p .holders) → b < length (p .holders) → a ≢ b → holder p b ≡ 0 → countOf (p .cells) (holder p a) ≡ 1 → Decap p a b (decap p a b)
+pub decap-does : (p : Pool) (a b : ℕ) → Sound p → a < length (p .holders) → b < length (p .holders) → a ≢ b → holder p b ≡ 0
+    → countOf (p .cells) (holder p a) ≡ 1 → Decap p a b (decap p a b)
 unfolding decap ListAt
 decap-does p a b s la lb ab nb one =
     let cs = p .cells in

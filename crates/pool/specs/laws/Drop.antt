@@ -41,7 +41,8 @@ pub record DropInv (r : ℕ → ℕ) (bs : List Cell) (f : ℕ) (cs : List Cell)
   pub number : n + length ws + lives cs ≡ lives bs
   pub size : length cs ≡ length bs
 
-pub Waits-frame : (cs ds : List Cell) (b : ℕ) (ws : List Wait) → ((w : ℕ) → 0 < waits ws w → (nextOf ds w ≡ nextOf cs w) × (elemOf ds w ≡ elemOf cs w)) → Waits cs b ws → Waits ds b ws
+pub Waits-frame : (cs ds : List Cell) (b : ℕ) (ws : List Wait)
+    → ((w : ℕ) → 0 < waits ws w → (nextOf ds w ≡ nextOf cs w) × (elemOf ds w ≡ elemOf cs w)) → Waits cs b ws → Waits ds b ws
 unfolding Waits tally
 Waits-frame cs ds b [] s h = h
 Waits-frame cs ds b (w ∷ ws) s h =
@@ -77,7 +78,8 @@ module _ (r : ℕ → ℕ) (bs : List Cell) where
       let inside = live-cell cs x (omega arith) in
       let y : Cell = counted (at cs x) (suc k) in (
         record {
-          chained = Waits-frame cs (put cs x y) b ws (λ w _. put-cases cs x y inside (λ d c. (c .next ≡ nextOf cs d) × (c .elem ≡ elemOf cs d)) (refl, refl) (λ d. (refl, refl)) w) (v .chained);
+          chained = Waits-frame cs (put cs x y) b ws
+              (λ w _. put-cases cs x y inside (λ d c. (c .next ≡ nextOf cs d) × (c .elem ≡ elemOf cs d)) (refl, refl) (λ d. (refl, refl)) w) (v .chained);
           held = lower f cs (λ c. same x c + items ws c + r c) (waits ws) (λ c. same 0 c + items ws c + r c) x k (v .held) e
               (λ d m. omega (arith, same-ne 0 d (λ q. m (sym q))));
           kept = Kept-trans bs cs (put cs x y) (v .kept) (kept-count cs x y inside refl (λ _. omega arith));
@@ -139,7 +141,8 @@ module _ (r : ℕ → ℕ) (bs : List Cell) where
             refl,
             omega arith,
             ap (λ c. c .elem) here ∙ ap (λ c. c .elem) was,
-            subst (λ d. Waits cs₂ d ws) (sym (ap (λ c. c .next) here)) (Waits-frame cs cs₂ b ws (λ w l. elsewhere cs x w y y₁ (busy f cs x b n ws v (omega arith) w l)) (v .chained)),
+            subst (λ d. Waits cs₂ d ws) (sym (ap (λ c. c .next) here))
+                (Waits-frame cs cs₂ b ws (λ w l. elsewhere cs x w y y₁ (busy f cs x b n ws v (omega arith) w l)) (v .chained)),
           );
           held = refit f cs₁ r′ a′ x y₁ h₁ (omega (arith, same-eq x)) z₁;
           kept = Kept-trans bs cs cs₂ (v .kept) (Kept-trans cs cs₁ cs₂ (kept-free cs x y inside refl) (kept-free cs₁ x y₁ inside₁ z₁));

@@ -32,11 +32,13 @@ module _ (r : ℕ → ℕ) (bs : List Cell) where
   unfolding visit
   visit-inv f cs x b n (suc k) t ws v e g = let (v′, l) = case-shared r bs f cs x b n k ws v e in (ws, v′, omega arith)
   visit-inv f cs x b n zero zero ws v e g = let (v′, l) = case-atom r bs f cs x b n ws v e g in (ws, v′, omega arith)
-  visit-inv f cs x b n zero (suc zero) ws v e g = let (v′, l) = case-list r bs f cs x b n ws v e g in (record { cell = x; item = elemOf cs x } ∷ ws, v′, omega arith)
+  visit-inv f cs x b n zero (suc zero) ws v e g =
+      let (v′, l) = case-list r bs f cs x b n ws v e g in (record { cell = x; item = elemOf cs x } ∷ ws, v′, omega arith)
   visit-inv f cs x b n zero (suc (suc t)) ws v e g = absurd (omega (arith, v .held .kinds x (omega arith)))
 
   pub here-live : (f : ℕ) (cs : List Cell) (i b n : ℕ) (ws : List Wait) → DropInv r bs f cs (suc i) b n ws → Live cs (suc i)
-  here-live f cs i b n ws v = root-live f cs (λ c. same (suc i) c + items ws c + r c) (waits ws) (suc i) (v .held) (omega arith) (omega (arith, same-eq (suc i)))
+  here-live f cs i b n ws v =
+      root-live f cs (λ c. same (suc i) c + items ws c + r c) (waits ws) (suc i) (v .held) (omega arith) (omega (arith, same-eq (suc i)))
 
   -- at its end, or one step nearer to it
   pub step-inv : (f : ℕ) (cs : List Cell) (x b n : ℕ) (ws : List Wait) → DropInv r bs f cs x b n ws
@@ -65,7 +67,8 @@ module _ (r : ℕ → ℕ) (bs : List Cell) where
 
   ended : (s : Dropping) (ws : List Wait) → DropInvAt s ws → s .here ≡ 0 → s .waiting ≡ 0 → ws ≡ [] → DropInv r bs (s .free) (s .cells) 0 0 (s .freed) []
   ended s ws v e g q =
-      subst (λ u. DropInv r bs (s .free) (s .cells) 0 0 (s .freed) u) q (subst (λ u. DropInv r bs (s .free) (s .cells) 0 u (s .freed) ws) g (subst (λ u. DropInv r bs (s .free) (s .cells) u (s .waiting) (s .freed) ws) e v))
+      subst (λ u. DropInv r bs (s .free) (s .cells) 0 0 (s .freed) u) q
+      (subst (λ u. DropInv r bs (s .free) (s .cells) 0 u (s .freed) ws) g (subst (λ u. DropInv r bs (s .free) (s .cells) u (s .waiting) (s .freed) ws) e v))
 
   pub dropping-done : (k : ℕ) (s : Dropping) (ws : List Wait) → DropInvAt s ws → todo s ws ≤ k → Done (dropping k s)
   unfolding dropping
@@ -108,7 +111,8 @@ drops r f cs x h = go (dropped f cs x) (dropped-done r f cs x h)
   where
     go : (s : Dropping) → Done r cs s → Dropped r cs s
     go s (v, e, g) = record {
-      held = reroot (s .free) (s .cells) (λ c. same 0 c + items [] c + r c) (waits []) r (λ c. 0) (v .held) (λ d m. omega (arith, same-ne 0 d (λ q. m (sym q)))) (λ d. refl);
+      held = reroot (s .free) (s .cells) (λ c. same 0 c + items [] c + r c) (waits []) r (λ c. 0) (v .held)
+          (λ d m. omega (arith, same-ne 0 d (λ q. m (sym q)))) (λ d. refl);
       kept = v .kept;
       number = omega (arith, v .number);
       size = v .size;

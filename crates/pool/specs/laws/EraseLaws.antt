@@ -64,10 +64,12 @@ module _ (p : Pool) (h : ℕ) (q : Pool) (s : Sound p) (t : Sound q) (k : Kept (
     where
       go : (i n : ℕ) → Walk (q .cells) n (holder q i) c → Dec (i ≡ h) → (i : ℕ) × (i ≢ h) × Reaches p i c
       go i n w (yes e) = absurd (null-reaches q n (holder q i) c (ap (holder q) e ∙ own-holder) l w)
-      go i n w (no m) = (i, m, (n, subst (λ u. Walk (p .cells) n u c) (other-holder i m) (Walk-map (q .cells) (p .cells) (step-kept (p .cells) (q .cells) k) n (holder q i) c w)))
+      go i n w (no m) =
+          (i, m, (n, subst (λ u. Walk (p .cells) n u c) (other-holder i m) (Walk-map (q .cells) (p .cells) (step-kept (p .cells) (q .cells) k) n (holder q i) c w)))
 
   pub reached-stays : (c i : ℕ) → c ≢ 0 → i ≢ h → Reaches p i c → Live (q .cells) c
-  reached-stays c i n m (j, w) = go (walk-kept (q .free) (p .cells) (q .cells) (occ (q .holders)) none-aside k (sound-held q t) j (holder p i) c (subst (NullOrLive (q .cells)) (other-holder i m) (t .holds i)) w)
+  reached-stays c i n m (j, w) =
+      go (walk-kept (q .free) (p .cells) (q .cells) (occ (q .holders)) none-aside k (sound-held q t) j (holder p i) c (subst (NullOrLive (q .cells)) (other-holder i m) (t .holds i)) w)
     where
       go : NullOrLive (q .cells) c → Live (q .cells) c
       go (inl e) = absurd (n e)
@@ -90,7 +92,9 @@ module _ (p : Pool) (h : ℕ) (q : Pool) (s : Sound p) (t : Sound q) (k : Kept (
       back g (i, m, w) = g i m w
 
   other-lists : (i : ℕ) (l : Lst) → i ≢ h → ListAt (p .cells) (holder p i) l → ListAt (q .cells) (holder q i) l
-  other-lists i l m w = ListAt-kept (q .free) (p .cells) (q .cells) (occ (q .holders)) none-aside k (sound-held q t) l (holder q i) (t .holds i) (subst (λ u. ListAt (p .cells) u l) (sym (other-holder i m)) w)
+  other-lists i l m w =
+      ListAt-kept (q .free) (p .cells) (q .cells) (occ (q .holders)) none-aside k (sound-held q t) l (holder q i) (t .holds i)
+      (subst (λ u. ListAt (p .cells) u l) (sym (other-holder i m)) w)
 
 pub erases : (p : Pool) (h : ℕ) → Sound p → let (q, n) = erase p h in Erases p h q n
 unfolding erase
@@ -98,7 +102,8 @@ erases p h s =
     let r : ℕ → ℕ = occ (set (p .holders) h 0) in
     let z : Dropping = dropped (p .free) (p .cells) (holder p h) in
     let d : Dropped r (p .cells) z = drops r (p .free) (p .cells) (holder p h)
-    (reroot (p .free) (p .cells) (occ (p .holders)) none-aside (λ c. same (holder p h) c + r c) none-aside (sound-held p s) (λ c n. occ-cleared (p .holders) h c n) (λ c. refl)) in
+    (reroot (p .free) (p .cells) (occ (p .holders)) none-aside (λ c. same (holder p h) c + r c) none-aside (sound-held p s)
+    (λ c n. occ-cleared (p .holders) h c n) (λ c. refl)) in
     let q : Pool = record { free = z .free; holders = set (p .holders) h 0; cells = z .cells } in
     let t : Sound q = held-sound q (d .held) in
     record {

@@ -49,8 +49,13 @@ ListAt-grown cs ds k (atom a l) c h =
 ListAt-grown cs ds k (list g l) c h =
     let (v, e) = k c (h .0) in
     let nx : nextOf cs c ≡ nextOf ds c = ap (λ x. x .next) e in
-    let el : elemOf cs c ≡ elemOf ds c = ap (λ x. x .elem) e in
-    (v, sym (ap (λ x. x .kind) e) ∙ h .1, ListAt-grown cs ds k g (elemOf ds c) (subst (λ u. ListAt cs u g) el (h .2)), ListAt-grown cs ds k l (nextOf ds c) (subst (λ u. ListAt cs u l) nx (h .3)))
+    let el : elemOf cs c ≡ elemOf ds c = ap (λ x. x .elem) e in (
+      v,
+      sym (ap (λ x. x .kind) e) ∙ h .1,
+      ListAt-grown cs ds k g (elemOf ds c) (subst (λ u. ListAt cs u g) el
+          (h .2)),
+      ListAt-grown cs ds k l (nextOf ds c) (subst (λ u. ListAt cs u l) nx (h .3)),
+    )
 
 -- what stays when live cells keep their fields
 
@@ -81,7 +86,8 @@ ListAt-kept f cs ds r a k s (list g l) c (inr v) h =
 pub step-kept : (cs ds : List Cell) → Kept cs ds → (c d : ℕ) → Step ds c d → Step cs c d
 step-kept cs ds k c d s = let (l, e) = k c (s .0) in (l, go e (s .1))
   where
-    go : counted (at ds c) 0 ≡ counted (at cs c) 0 → (nextOf ds c ≡ d) ⊎ ((kindOf ds c ≡ 1) × (elemOf ds c ≡ d)) → (nextOf cs c ≡ d) ⊎ ((kindOf cs c ≡ 1) × (elemOf cs c ≡ d))
+    go : counted (at ds c) 0 ≡ counted (at cs c) 0 → (nextOf ds c ≡ d) ⊎ ((kindOf ds c ≡ 1) × (elemOf ds c ≡ d))
+        → (nextOf cs c ≡ d) ⊎ ((kindOf cs c ≡ 1) × (elemOf cs c ≡ d))
     go e (inl u) = inl (sym (ap (λ x. x .next) e) ∙ u)
     go e (inr u) = inr (sym (ap (λ x. x .kind) e) ∙ u .0, sym (ap (λ x. x .elem) e) ∙ u .1)
 

@@ -65,8 +65,12 @@ chain-ups n zero j e =
     let z : nextOf (laid 0 (suc j)) (suc j) ≡ 0 = laid-end 0 j in
     let q : suc j ≡ n = omega arith in
     (refl, omega arith, subst (λ u. nextOf (laid 0 u) (suc j) ≡ 0) q z)
-chain-ups n (suc k) j e =
-    (refl, omega arith, subst (λ u. Chain (laid 0 n) u (ups (suc j) (suc k))) (sym (laid-next 0 n j (omega arith) ∙ omega arith)) (chain-ups n k (suc j) (omega arith)))
+chain-ups n (suc k) j e = (
+  refl,
+  omega arith,
+  subst (λ u. Chain (laid 0 n) u (ups (suc j) (suc k))) (sym (laid-next 0 n j (omega arith) ∙ omega arith)) (chain-ups n k (suc j)
+      (omega arith)),
+)
 
 zeros : (k c : ℕ) → c ≢ 0 → occ (replicate k 0) c ≡ 0
 unfolding tally
@@ -92,7 +96,8 @@ fresh-sound (suc m) k l = held-sound (fresh (suc m) k) (record {
             let (b, v) = find-tally (sends c) (laid 0 (suc m)) (omega arith) in
             absurd (omega (arith, sends-free c (at (laid 0 (suc m)) b) (laid-count 0 (suc m) b)))
 
-    marked : (c : ℕ) → ((0 < c) × (c ≤ 0 + suc m) × (occ (ups 0 (suc m)) c ≡ 1)) ⊎ ((0 < c → c ≤ 0 + suc m → ⊥) × (occ (ups 0 (suc m)) c ≡ 0)) → occ (ups 0 (suc m)) c + 0 ≡ mark (laid 0 (suc m)) c
+    marked : (c : ℕ) → ((0 < c) × (c ≤ 0 + suc m) × (occ (ups 0 (suc m)) c ≡ 1)) ⊎ ((0 < c → c ≤ 0 + suc m → ⊥) × (occ (ups 0 (suc m)) c ≡ 0))
+        → occ (ups 0 (suc m)) c + 0 ≡ mark (laid 0 (suc m)) c
     marked c (inl (a, b, o)) =
         omega (arith, mark-cell (laid 0 (suc m)) c a (omega (arith, laid-length 0 (suc m))), same-of (countOf (laid 0 (suc m)) c) 0 (laid-count 0 (suc m) c))
     marked c (inr (f, o)) = go (ℕ-discrete (mark (laid 0 (suc m)) c) 0)

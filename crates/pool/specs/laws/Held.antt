@@ -130,5 +130,13 @@ module _ (cs : List Cell) (c : ℕ) (y : Cell) (inside : InPool cs c) where
       marks d (no m) = omega (arith, h .chain .2 d, mark-other cs c d y m, aside-others d m)
       marks d (yes e) =
           let len : c ≤ length (put cs c y) = rw put-length (inside .1) in
-          let k : occ (h .chain .0) c + a′ c ≡ mark (put cs c y) c = omega (arith, h .chain .2 c, mark-cell cs c (inside .0) (inside .1), mark-cell (put cs c y) c (inside .0) len, ap (λ x. same (x .count) 0) put-here, aside-c) in
+          let k : occ (h .chain .0) c + a′ c ≡ mark (put cs c y) c = omega (
+            arith,
+            h .chain .2 c,
+            mark-cell cs c (inside .0) (inside .1),
+            mark-cell (put cs c y) c (inside .0) len,
+            ap (λ x. same
+                (x .count) 0) put-here,
+            aside-c,
+          ) in
           rw e k

@@ -13,7 +13,7 @@ use Rattle.pool.specs.laws.TallyLaws.{same-eq, same-ne}
 use Rattle.pool.specs.Pool.{Cell, Pool, at, put, elemOf, countOf, nextOf, counted, followed, setCount, setNext, holder, Live, NullOrLive, InPool, ListAt, gives, Sound}
 use Rattle.pool.specs.Operations.{flip, inv}
 use Rattle.pool.specs.laws.Edit.{put-same, put-other, live-cell, put-put}
-use Rattle.pool.specs.laws.PoolLaws.{ListAt-unique}
+use Rattle.pool.specs.laws.PoolLaws.{heads-atom, heads-list, ListAt-unique}
 use Rattle.pool.specs.laws.Held.{Held, reroot, root-live}
 use Rattle.pool.specs.laws.Arrows.{gives-list}
 use Rattle.pool.specs.laws.HeldSteps.{unlock, fill}
@@ -48,7 +48,8 @@ turn f cs x y r h one =
     let r₁ : ℕ → ℕ = λ d. gives d (at cs x) + same y d + r d in
     let h₁ : Held f cs₁ r₁ (same x) = unlock f cs (λ d. same x d + same y d + r d) none-aside r₁ (same x) x h one (λ d n. omega arith) (λ d. omega arith) in
     let r₂ : ℕ → ℕ = λ d. same (nextOf cs x) d + same x d + r d in
-    let h₂ : Held f (put cs₁ x z) r₂ none-aside = fill f cs₁ r₁ (same x) r₂ none-aside (λ d. same (nextOf cs x) d + r d) x z h₁ (omega (arith, same-eq x)) one (h .kinds x (omega arith))
+    let h₂ : Held f (put cs₁ x z) r₂ none-aside = fill f cs₁ r₁ (same x) r₂ none-aside (λ d. same (nextOf cs x) d + r d) x z h₁
+    (omega (arith, same-eq x)) one (h .kinds x (omega arith))
     (λ d n. omega arith) (λ d n. omega arith) (λ d. omega arith) in
     record {
       held = subst (λ u. Held f u r₂ none-aside) (put-put cs x o z) h₂;
@@ -58,7 +59,8 @@ turn f cs x y r h one =
       like = λ c l. like inside c l (ℕ-discrete c x);
     }
   where
-    like : InPool cs x → (c : ℕ) → Live (setCount cs x 0) c → Dec (c ≡ x) → (at cs c ≡ at (setCount cs x 0) c) × (at (setNext cs x y) c ≡ at (setCount cs x 0) c)
+    like : InPool cs x → (c : ℕ) → Live (setCount cs x 0) c → Dec (c ≡ x)
+        → (at cs c ≡ at (setCount cs x 0) c) × (at (setNext cs x y) c ≡ at (setCount cs x 0) c)
     like inside c l (yes e) =
         let l′ : Live (setCount cs x 0) x = subst (Live (setCount cs x 0)) e l in
         absurd (omega (arith, l′, ap (λ u. u .count) (put-same cs x (counted (at cs x) 0) (inside .0) (inside .1))))
@@ -67,23 +69,19 @@ turn f cs x y r h one =
         (sym e, put-other cs x c (followed (at cs x) y) n ∙ sym e)
 
 -- by cells that are alike where bs is live
-pub Alone-like : (bs cs ds : List Cell) → ((c : ℕ) → Live bs c → (at cs c ≡ at bs c) × (at ds c ≡ at bs c)) → (l : Lst) (c : ℕ) → ListAt bs c l → Alone cs c l → Alone ds c l
+alone-first : (bs cs ds : List Cell) (l : Lst) (c : ℕ) → at cs c ≡ at bs c → at ds c ≡ at bs c → (Alone cs (nextOf bs c) l → Alone ds (nextOf bs c) l)
+    → (countOf cs c ≡ 1) × Alone cs (nextOf cs c) l → (countOf ds c ≡ 1) × Alone ds (nextOf ds c) l
+alone-first bs cs ds l c e g ih o =
+    let nb : nextOf cs c ≡ nextOf bs c = ap (λ x. x .next) e in
+    let nd : nextOf ds c ≡ nextOf bs c = ap (λ x. x .next) g in
+    (ap (λ x. x .count) (g ∙ sym e) ∙ o .0, subst (λ u. Alone ds u l) (sym nd) (ih (subst (λ u. Alone cs u l) nb (o .1))))
+
+pub Alone-like : (bs cs ds : List Cell) → ((c : ℕ) → Live bs c → (at cs c ≡ at bs c) × (at ds c ≡ at bs c)) → (l : Lst) (c : ℕ) → ListAt bs c l
+    → Alone cs c l → Alone ds c l
 unfolding Alone ListAt
 Alone-like bs cs ds k nil c h o = tt
-Alone-like bs cs ds k (atom a l) c h o =
-    let (e, g) = k c (h .0) in
-    let nb : nextOf cs c ≡ nextOf bs c = ap (λ x. x .next) e in
-    let nd : nextOf ds c ≡ nextOf bs c = ap (λ x. x .next) g in (
-      ap (λ x. x .count) (g ∙ sym e) ∙ o .0,
-      subst (λ u. Alone ds u l) (sym nd) (Alone-like bs cs ds k l (nextOf bs c) (h .3) (subst (λ u. Alone cs u l) nb (o .1))),
-    )
-Alone-like bs cs ds k (list q l) c h o =
-    let (e, g) = k c (h .0) in
-    let nb : nextOf cs c ≡ nextOf bs c = ap (λ x. x .next) e in
-    let nd : nextOf ds c ≡ nextOf bs c = ap (λ x. x .next) g in (
-      ap (λ x. x .count) (g ∙ sym e) ∙ o .0,
-      subst (λ u. Alone ds u l) (sym nd) (Alone-like bs cs ds k l (nextOf bs c) (h .3) (subst (λ u. Alone cs u l) nb (o .1))),
-    )
+Alone-like bs cs ds k (atom a l) c h o = let (e, g) = k c (h .0) in alone-first bs cs ds l c e g (Alone-like bs cs ds k l (nextOf bs c) (h .3)) o
+Alone-like bs cs ds k (list q l) c h o = let (e, g) = k c (h .0) in alone-first bs cs ds l c e g (Alone-like bs cs ds k l (nextOf bs c) (h .3)) o
 
 module _ (f : ℕ) (cs : List Cell) (x y : ℕ) (r : ℕ → ℕ) (t : Turned f cs x y r) where
   null-or-root : (c : ℕ) → (c ≡ 0) ⊎ (0 < gives c (at cs x) + same y c + r c) → NullOrLive (setCount cs x 0) c
@@ -99,12 +97,15 @@ module _ (f : ℕ) (cs : List Cell) (x y : ℕ) (r : ℕ → ℕ) (t : Turned f 
   without l c o h = ListAt-kept f cs (setCount cs x 0) (λ d. gives d (at cs x) + same y d + r d) (same x) (t .kept₁) (t .held₁) l c (null-or-root c o) h
 
   pub list-after : (l : Lst) (c : ℕ) → (c ≡ 0) ⊎ (0 < gives c (at cs x) + same y c + r c) → ListAt cs c l → ListAt (setNext cs x y) c l
-  list-after l c o h = ListAt-grown (setCount cs x 0) (setNext cs x y) (λ d m. let e = t .like d m .1 in (subst (λ u. 0 < u .count) (sym e) m, ap (λ u. counted u 0) (sym e))) l c (without l c o h)
+  list-after l c o h =
+      ListAt-grown (setCount cs x 0) (setNext cs x y)
+      (λ d m. let e = t .like d m .1 in (subst (λ u. 0 < u .count) (sym e) m, ap (λ u. counted u 0) (sym e))) l c (without l c o h)
 
-pub record Flipped (f : ℕ) (cs : List Cell) (l m : Lst) (r : ℕ → ℕ) (ds : List Cell) (z : ℕ) : Type 0 where
-  pub held : Held f ds (λ d. same z d + r d) none-aside
-  pub gets : ListAt ds z (onto l m)
-  pub others : (c : ℕ) (n : Lst) → (c ≡ 0) ⊎ (0 < r c) → ListAt cs c n → ListAt ds c n
+-- the list from z is n, and other lists stay
+record Flipped (f : ℕ) (cs : List Cell) (n : Lst) (r : ℕ → ℕ) (ds : List Cell) (z : ℕ) : Type 0 where
+  held : Held f ds (λ d. same z d + r d) none-aside
+  gets : ListAt ds z n
+  others : (c : ℕ) (n : Lst) → (c ≡ 0) ⊎ (0 < r c) → ListAt cs c n → ListAt ds c n
 
 pub flip-end : (k : ℕ) (cs : List Cell) (x y : ℕ) → x ≡ 0 → flip k cs x y ≡ (cs, y)
 unfolding flip
@@ -117,12 +118,32 @@ unfolding flip
 flip-next k cs zero y n = absurd (n refl)
 flip-next k cs (suc i) y n = refl
 
+-- the first cell turned, and then the rest
+module _ (f : ℕ) (r : ℕ → ℕ) (l n : Lst) (k : ℕ) (cs : List Cell) (x y : ℕ) (t : Turned f cs x y r) (live : Live cs x) where
+  flipped-first : Flipped f (setNext cs x y) n r (flip k (setNext cs x y) (nextOf cs x) x .0) (flip k (setNext cs x y) (nextOf cs x) x .1)
+      → Flipped f cs n r (flip (suc k) cs x y .0) (flip (suc k) cs x y .1)
+  flipped-first g =
+      subst (λ u. Flipped f cs n r (u .0) (u .1)) (sym (flip-next k cs x y (omega (arith, live-cell cs x live))))
+      (record { held = g .held; gets = g .gets; others = λ c m q w. g .others c m q (list-after f cs x y r t m c (or-more c q) w) })
+    where
+      or-more : (c : ℕ) → (c ≡ 0) ⊎ (0 < r c) → (c ≡ 0) ⊎ (0 < gives c (at cs x) + same y c + r c)
+      or-more c (inl e) = inl e
+      or-more c (inr p) = inr (omega arith)
+
+  rest-root : (nextOf cs x ≡ 0) ⊎ (0 < gives (nextOf cs x) (at cs x) + same y (nextOf cs x) + r (nextOf cs x))
+  unfolding gives
+  rest-root = inr (omega (arith, same-eq (nextOf cs x)))
+
+  rest-alone : ListAt cs (nextOf cs x) l → Alone cs (nextOf cs x) l → Alone (setNext cs x y) (nextOf cs x) l
+  rest-alone w o = Alone-like (setCount cs x 0) cs (setNext cs x y) (t .like) l (nextOf cs x) (without f cs x y r t l (nextOf cs x) rest-root w) o
+
 flips : (f : ℕ) (r : ℕ → ℕ) (l : Lst) (k : ℕ) (cs : List Cell) (x y : ℕ) (m : Lst) → len l ≤ k → Held f cs (λ d. same x d + same y d + r d) none-aside
-    → ListAt cs x l → Alone cs x l → ListAt cs y m → Flipped f cs l m r (flip k cs x y .0) (flip k cs x y .1)
-unfolding len onto ListAt Alone gives
+    → ListAt cs x l → Alone cs x l → ListAt cs y m → Flipped f cs (onto l m) r (flip k cs x y .0) (flip k cs x y .1)
+unfolding len onto ListAt Alone
 flips f r nil k cs x y m s h lx o ly =
-    subst (λ u. Flipped f cs nil m r (u .0) (u .1)) (sym (flip-end k cs x y lx)) (record {
-      held = reroot f cs (λ d. same x d + same y d + r d) none-aside (λ d. same y d + r d) none-aside h (λ d n. omega (arith, same-ne x d (λ q. n (sym q ∙ lx)))) (λ d. refl);
+    subst (λ u. Flipped f cs m r (u .0) (u .1)) (sym (flip-end k cs x y lx)) (record {
+      held = reroot f cs (λ d. same x d + same y d + r d) none-aside (λ d. same y d + r d) none-aside h
+          (λ d n. omega (arith, same-ne x d (λ q. n (sym q ∙ lx)))) (λ d. refl);
       gets = ly;
       others = λ c n q w. w;
     })
@@ -130,49 +151,21 @@ flips f r (atom v l) zero cs x y m s h lx o ly = absurd (omega arith)
 flips f r (list e l) zero cs x y m s h lx o ly = absurd (omega arith)
 flips f r (atom v l) (suc k) cs x y m s h lx o ly =
     let t = turn f cs x y r h (o .0) in
-    let ds : List Cell = setNext cs x y in
+    let n = onto l (atom v m) in
     let on = list-after f cs x y r t in
-    let tail : (nextOf cs x ≡ 0) ⊎ (0 < gives (nextOf cs x) (at cs x) + same y (nextOf cs x) + r (nextOf cs x)) = inr (omega (arith, same-eq (nextOf cs x))) in
-    let g = flips f r l k ds (nextOf cs x) x (atom v m) (omega arith) (t .held)
-    (on l (nextOf cs x) tail (lx .3))
-    (Alone-like (setCount cs x 0) cs ds (t .like) l (nextOf cs x) (without f cs x y r t l (nextOf cs x) tail (lx .3)) (o .1)) (
-      subst (λ u. 0 < u .count) (sym (t .here)) (lx .0),
-      ap (λ u. u .kind) (t .here) ∙ lx .1,
-      ap (λ u. u .elem) (t .here) ∙ lx .2,
-      subst (λ u. ListAt ds u m) (sym (ap (λ u. u .next) (t .here))) (on m y (inr (omega (arith, same-eq y))) ly),
-    ) in
-    subst (λ u. Flipped f cs (atom v l) m r (u .0) (u .1)) (sym (flip-next k cs x y (omega (arith, live-cell cs x (lx .0))))) (record {
-      held = g .held;
-      gets = g .gets;
-      others = λ c n q w. g .others c n q (on n c (or-more c q) w);
-    })
-  where
-    or-more : (c : ℕ) → (c ≡ 0) ⊎ (0 < r c) → (c ≡ 0) ⊎ (0 < gives c (at cs x) + same y c + r c)
-    or-more c (inl e) = inl e
-    or-more c (inr p) = inr (omega arith)
+    let done = heads-atom (setNext cs x y) x (followed (at cs x) y) v m (t .here) (lx .0) (lx .1) (lx .2) (on m y (inr (omega (arith, same-eq y))) ly) in
+    flipped-first f r l n k cs x y t (lx .0) (flips f r l k (setNext cs x y) (nextOf cs x) x (atom v m) (omega arith) (t .held)
+    (on l (nextOf cs x) (rest-root f r l n k cs x y t (lx .0)) (lx .3)) (rest-alone f r l n k cs x y t (lx .0) (lx .3) (o .1)) done)
 flips f r (list e l) (suc k) cs x y m s h lx o ly =
     let t = turn f cs x y r h (o .0) in
-    let ds : List Cell = setNext cs x y in
+    let n = onto l (list e m) in
     let on = list-after f cs x y r t in
-    let tail : (nextOf cs x ≡ 0) ⊎ (0 < gives (nextOf cs x) (at cs x) + same y (nextOf cs x) + r (nextOf cs x)) = inr (omega (arith, same-eq (nextOf cs x))) in
-    let head : (elemOf cs x ≡ 0) ⊎ (0 < gives (elemOf cs x) (at cs x) + same y (elemOf cs x) + r (elemOf cs x)) = inr (omega (arith, same-eq (elemOf cs x), gives-list (elemOf cs x) (at cs x) (lx .1))) in
-    let g = flips f r l k ds (nextOf cs x) x (list e m) (omega arith) (t .held)
-    (on l (nextOf cs x) tail (lx .3))
-    (Alone-like (setCount cs x 0) cs ds (t .like) l (nextOf cs x) (without f cs x y r t l (nextOf cs x) tail (lx .3)) (o .1)) (
-      subst (λ u. 0 < u .count) (sym (t .here)) (lx .0),
-      ap (λ u. u .kind) (t .here) ∙ lx .1,
-      subst (λ u. ListAt ds u e) (sym (ap (λ u. u .elem) (t .here))) (on e (elemOf cs x) head (lx .2)),
-      subst (λ u. ListAt ds u m) (sym (ap (λ u. u .next) (t .here))) (on m y (inr (omega (arith, same-eq y))) ly),
-    ) in
-    subst (λ u. Flipped f cs (list e l) m r (u .0) (u .1)) (sym (flip-next k cs x y (omega (arith, live-cell cs x (lx .0))))) (record {
-      held = g .held;
-      gets = g .gets;
-      others = λ c n q w. g .others c n q (on n c (or-more c q) w);
-    })
-  where
-    or-more : (c : ℕ) → (c ≡ 0) ⊎ (0 < r c) → (c ≡ 0) ⊎ (0 < gives c (at cs x) + same y c + r c)
-    or-more c (inl e) = inl e
-    or-more c (inr p) = inr (omega arith)
+    let root : 0 < gives (elemOf cs x) (at cs x) + same y (elemOf cs x) + r (elemOf cs x) =
+    omega (arith, same-eq (elemOf cs x), gives-list (elemOf cs x) (at cs x) (lx .1)) in
+    let done = heads-list (setNext cs x y) x (followed (at cs x) y) e m (t .here) (lx .0) (lx .1) (on e (elemOf cs x) (inr root) (lx .2))
+    (on m y (inr (omega (arith, same-eq y))) ly) in
+    flipped-first f r l n k cs x y t (lx .0) (flips f r l k (setNext cs x y) (nextOf cs x) x (list e m) (omega arith) (t .held)
+    (on l (nextOf cs x) (rest-root f r l n k cs x y t (lx .0)) (lx .3)) (rest-alone f r l n k cs x y t (lx .0) (lx .3) (o .1)) done)
 
 -- INV
 
@@ -181,7 +174,8 @@ pub record Inv (p : Pool) (a : ℕ) (q : Pool) : Type 0 where
   pub gets : (l : Lst) → ListAt (p .cells) (holder p a) l → ListAt (q .cells) (holder q a) (reversed l)
   pub others : Stay p q (λ i. i ≢ a)
 
-pub inv-does : (p : Pool) (a : ℕ) (l : Lst) → Sound p → a < length (p .holders) → ListAt (p .cells) (holder p a) l → Alone (p .cells) (holder p a) l → Inv p a (inv p a)
+pub inv-does : (p : Pool) (a : ℕ) (l : Lst) → Sound p → a < length (p .holders) → ListAt (p .cells) (holder p a) l → Alone (p .cells) (holder p a) l
+    → Inv p a (inv p a)
 unfolding inv reversed ListAt
 inv-does p a l s la w o =
     let cs = p .cells in
@@ -190,11 +184,15 @@ inv-does p a l s la w o =
     let z : ℕ = flip (length cs) cs x 0 .1 in
     let ds : List Cell = flip (length cs) cs x 0 .0 in
     let h = sound-held p s in
-    let g : Flipped (p .free) cs l nil (but hs a) ds z = flips (p .free) (but hs a) l (length cs) cs x 0 nil (len-le (p .free) cs (occ hs) none-aside h l x w)
-    (reroot (p .free) cs (occ hs) none-aside (λ d. same x d + same 0 d + but hs a d) none-aside h (λ d n. omega (arith, occ-take hs a d la n, same-ne 0 d (λ q. n (sym q)))) (λ d. refl))
+    let g : Flipped (p .free) cs (onto l nil) (but hs a) ds z = flips (p .free) (but hs a) l (length cs) cs x 0 nil (len-le (p .free) cs (occ hs) none-aside h l x w)
+    (reroot (p .free) cs (occ hs) none-aside (λ d. same x d + same 0 d + but hs a d) none-aside h
+    (λ d n. omega (arith, occ-take hs a d la n, same-ne 0 d (λ q. n (sym q)))) (λ d. refl))
     w o refl in
     record {
-      sound = held-sound (inv p a) (reroot (p .free) ds (λ d. same z d + but hs a d) none-aside (occ (set hs a z)) none-aside (g .held) (λ d n. omega (arith, occ-give hs a z d la n)) (λ d. refl));
-      gets = λ l′ w′. subst (λ u. ListAt ds u (onto l′ nil)) (sym (getD-set-same hs a z 0 la)) (subst (λ u. ListAt ds z (onto u nil)) (ListAt-unique cs x l l′ w w′) (g .gets));
+      sound = held-sound (inv p a)
+          (reroot (p .free) ds (λ d. same z d + but hs a d) none-aside (occ (set hs a z)) none-aside (g .held)
+          (λ d n. omega (arith, occ-give hs a z d la n)) (λ d. refl));
+      gets = λ l′ w′. subst (λ u. ListAt ds u (onto l′ nil)) (sym (getD-set-same hs a z 0 la))
+          (subst (λ u. ListAt ds z (onto u nil)) (ListAt-unique cs x l l′ w w′) (g .gets));
       others = λ i l′ n w′. subst (λ u. ListAt ds u l′) (sym (getD-set-other hs a i z 0 n)) (g .others (holder p i) l′ (other-root hs a i n) w′);
     }

@@ -57,7 +57,8 @@ out f cs x y r a h one =
             let l′ : Live (setCount cs x 0) x = subst (Live (setCount cs x 0)) e l in
             omega (arith, l′, ap (λ u. u .count) (put-same cs x (counted (at cs x) 0) (inside .0) (inside .1)))
 
-    ok : Held f (setCount cs x 0) (λ d. same (nextOf cs x) d + same y d + (side d (at cs x) + r d)) (λ d. a d + same x d) → (c : ℕ) → (c ≡ 0) ⊎ (0 < same (nextOf cs x) c + same y c + (side c (at cs x) + r c)) → NullOrLive (setCount cs x 0) c
+    ok : Held f (setCount cs x 0) (λ d. same (nextOf cs x) d + same y d + (side d (at cs x) + r d)) (λ d. a d + same x d) → (c : ℕ)
+        → (c ≡ 0) ⊎ (0 < same (nextOf cs x) c + same y c + (side c (at cs x) + r c)) → NullOrLive (setCount cs x 0) c
     ok h₁ c (inl e) = inl e
     ok h₁ c (inr l) = go (ℕ-discrete c 0)
       where
@@ -81,7 +82,9 @@ back f ds x z r a one k h =
     record {
       held = fill f ds r₁ a₁ (λ d. same x d + r d) a r x z h (omega (arith, same-eq x)) one k (λ d n. omega arith) (λ d n. omega arith) (λ d. refl);
       here = put-same ds x z (inside .0) (inside .1);
-      grown = λ c n w. ListAt-grown ds (put ds x z) (put-cases ds x z inside (λ d u. Live ds d → (0 < u .count) × (counted (at ds d) 0 ≡ counted u 0)) (λ l. absurd (omega arith)) (λ d l. (l, refl))) n c w;
+      grown = λ c n w. ListAt-grown ds (put ds x z)
+          (put-cases ds x z inside (λ d u. Live ds d → (0 < u .count) × (counted (at ds d) 0 ≡ counted u 0)) (λ l. absurd (omega arith))
+          (λ d l. (l, refl))) n c w;
     }
 
 swap : (cs : List Cell) (x z y : ℕ) → z ≢ x → put (setNext (setCount cs x 0) z y) x (at cs x) ≡ setNext cs z y
@@ -104,7 +107,8 @@ at-last f cs x y r a h one e =
     let cs₁ : List Cell = setCount cs x 0 in
     let z : Cell = followed (at cs x) y in
     let h₁ : Held f cs₁ (λ d. same y d + (side d z + r d)) (λ d. a d + same x d) =
-    reroot f cs₁ (λ d. same (nextOf cs x) d + same y d + (side d (at cs x) + r d)) (λ d. a d + same x d) (λ d. same y d + (side d z + r d)) (λ d. a d + same x d) (t .held)
+    reroot f cs₁ (λ d. same (nextOf cs x) d + same y d + (side d (at cs x) + r d)) (λ d. a d + same x d) (λ d. same y d + (side d z + r d))
+    (λ d. a d + same x d) (t .held)
     (λ d n. omega (arith, same-ne (nextOf cs x) d (λ q. n (sym q ∙ e)))) (λ d. refl) in
     let b = back f cs₁ x z r a one (h .kinds x (omega arith)) h₁ in
     let p = put-put cs x (counted (at cs x) 0) z in

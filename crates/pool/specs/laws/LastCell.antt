@@ -25,7 +25,8 @@ Last-live cs (list e l) c z h (inr (n, k)) = Last-live cs l (nextOf cs c) z (h .
 
 -- by cells that are alike where bs is live
 like-first : (bs cs : List Cell) (l : Lst) (c z : ℕ) → at cs c ≡ at bs c → (Last cs (nextOf bs c) l z → Last bs (nextOf bs c) l z)
-    → ((nextOf cs c ≡ 0) × (c ≡ z)) ⊎ ((nextOf cs c ≢ 0) × Last cs (nextOf cs c) l z) → ((nextOf bs c ≡ 0) × (c ≡ z)) ⊎ ((nextOf bs c ≢ 0) × Last bs (nextOf bs c) l z)
+    → ((nextOf cs c ≡ 0) × (c ≡ z)) ⊎ ((nextOf cs c ≢ 0) × Last cs (nextOf cs c) l z)
+    → ((nextOf bs c ≡ 0) × (c ≡ z)) ⊎ ((nextOf bs c ≢ 0) × Last bs (nextOf bs c) l z)
 like-first bs cs l c z k ih (inl (e, q)) = inl (sym (ap (λ x. x .next) k) ∙ e, q)
 like-first bs cs l c z k ih (inr (n, o)) =
     let e : nextOf cs c ≡ nextOf bs c = ap (λ x. x .next) k in

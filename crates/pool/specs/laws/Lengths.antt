@@ -129,5 +129,6 @@ unfolding conc
 effect-alike p o =
     let a = o .a in
     let b = o .b in
-    by-code (Alike p) p o (λ e. pfa-alike p a b (o .v)) (λ e. pfl-alike p a b) (λ e. decap-alike p a b) (λ e. adv-alike p a b) (λ e. borrow-alike p a b) (λ e. erase-alike p a b) (λ e. inv-alike p a b)
+    by-code (Alike p) p o (λ e. pfa-alike p a b (o .v)) (λ e. pfl-alike p a b) (λ e. decap-alike p a b) (λ e. adv-alike p a b) (λ e. borrow-alike p a b)
+    (λ e. erase-alike p a b) (λ e. inv-alike p a b)
     (λ e. cinv-alike p a b) (λ e. conc-alike p a b (holder p a) (holder p b)) (alike-refl p)

@@ -69,14 +69,16 @@ shared-enough zero j k cs c s r w = shared-null j cs c w ∙ sym (shared-null k 
 shared-enough (suc n) zero k cs c s r w = absurd (omega arith)
 shared-enough (suc n) (suc j) zero cs c s r w = absurd (omega arith)
 shared-enough (suc n) (suc j) (suc k) cs c s r w =
-    shared-next j cs c (w .0) ∙ ap (λ (b : Bool). ltb 1 (countOf cs c) || b) (shared-enough n j k cs (nextOf cs c) (omega arith) (omega arith) (w .1)) ∙ sym (shared-next k cs c (w .0))
+    shared-next j cs c (w .0) ∙ ap (λ (b : Bool). ltb 1 (countOf cs c) || b) (shared-enough n j k cs (nextOf cs c) (omega arith) (omega arith) (w .1))
+    ∙ sym (shared-next k cs c (w .0))
 
 last-enough : (n j k : ℕ) (cs : List Cell) (c : ℕ) → n ≤ j → n ≤ k → c ≢ 0 → Level n cs c → lastOf j cs c ≡ lastOf k cs c
 unfolding Level
 last-enough zero j k cs c s r m w = absurd (m w)
 last-enough (suc n) zero k cs c s r m w = absurd (omega arith)
 last-enough (suc n) (suc j) zero cs c s r m w = absurd (omega arith)
-last-enough (suc n) (suc j) (suc k) cs c s r m w = go (ℕ-discrete (nextOf cs c) 0) (λ q. last-enough n j k cs (nextOf cs c) (omega arith) (omega arith) q (w .1))
+last-enough (suc n) (suc j) (suc k) cs c s r m w =
+    go (ℕ-discrete (nextOf cs c) 0) (λ q. last-enough n j k cs (nextOf cs c) (omega arith) (omega arith) q (w .1))
   where
     go : Dec (nextOf cs c ≡ 0) → (nextOf cs c ≢ 0 → lastOf j cs (nextOf cs c) ≡ lastOf k cs (nextOf cs c)) → lastOf (suc j) cs c ≡ lastOf (suc k) cs c
     go (yes e) ih = lastOf-end (suc j) cs c e ∙ sym (lastOf-end (suc k) cs c e)
@@ -111,7 +113,8 @@ onward cs c m r = go (r .number) (r .level) (r .few) (length cs) refl
       longer = span-is (suc n) (length cs) cs c s w ∙ ap suc (sym (span-is n (length cs) cs (nextOf cs c) (omega arith) (w .1)));
       found = λ q. rw e (shared-next k cs c (w .0) ∙ ap (λ (b : Bool). b || anyShared k cs (nextOf cs c)) (lt-ltb 1 (countOf cs c) q));
       passed = λ q. rw e
-          (shared-next k cs c (w .0) ∙ ap (λ (b : Bool). b || anyShared k cs (nextOf cs c)) (le-ltb 1 (countOf cs c) q) ∙ shared-enough n k (suc k) cs (nextOf cs c) (omega arith) (omega arith) (w .1));
+          (shared-next k cs c (w .0) ∙ ap (λ (b : Bool). b || anyShared k cs (nextOf cs c)) (le-ltb 1 (countOf cs c) q)
+          ∙ shared-enough n k (suc k) cs (nextOf cs c) (omega arith) (omega arith) (w .1));
       ends = lastOf-end (length cs) cs c;
       goes = λ q. rw e (lastOf-next k cs c q ∙ last-enough n k (suc k) cs (nextOf cs c) (omega arith) (omega arith) q (w .1));
     }
@@ -134,7 +137,8 @@ all-left p h s =
 
 pub length-is : (p : Pool) (h : ℕ) (l : Lst) → Sound p → ListAt (p .cells) (holder p h) l → lengthOf p h ≡ len l
 length-is p h l s w =
-    span-is (len l) (length (p .cells)) (p .cells) (holder p h) (len-le (p .free) (p .cells) (occ (p .holders)) none-aside (sound-held p s) l (holder p h) w) (list-level (p .cells) l (holder p h) w)
+    span-is (len l) (length (p .cells)) (p .cells) (holder p h)
+    (len-le (p .free) (p .cells) (occ (p .holders)) none-aside (sound-held p s) l (holder p h) w) (list-level (p .cells) l (holder p h) w)
 
 -- no count over 1: each is 1
 
@@ -155,4 +159,5 @@ lone (list e l) (suc k) cs c s w o =
     (omega (arith, ltb-false 1 (countOf cs c) one, w .0), lone l k cs (nextOf cs c) (omega arith) (w .3) on)
 
 pub alone : (p : Pool) (h : ℕ) (l : Lst) → Sound p → ListAt (p .cells) (holder p h) l → sharedAt p h ≡ false → Alone (p .cells) (holder p h) l
-alone p h l s w o = lone l (length (p .cells)) (p .cells) (holder p h) (len-le (p .free) (p .cells) (occ (p .holders)) none-aside (sound-held p s) l (holder p h) w) w o
+alone p h l s w o =
+    lone l (length (p .cells)) (p .cells) (holder p h) (len-le (p .free) (p .cells) (occ (p .holders)) none-aside (sound-held p s) l (holder p h) w) w o

@@ -8,6 +8,7 @@ use lib.ListN.{length, set}
 use lib.Seq.{getD-set-same, getD-set-other}
 use Rattle.lists.specs.Lst.{Lst, nil, atom, list, extent}
 use Rattle.pool.specs.Tally.{same, occ}
+use Rattle.pool.specs.laws.PoolLaws.{heads-atom, heads-list}
 use Rattle.pool.specs.laws.TallyLaws.{same-eq, same-ne}
 use Rattle.pool.specs.Pool.{Cell, Pool, at, put, countOf, nextOf, counted, holder, Live, ListAt, gives, lives, Sound}
 use Rattle.pool.specs.Operations.{Made, load, read}
@@ -39,7 +40,8 @@ record Filled (f : ℕ) (g : ℕ) (cs : List Cell) (y : Cell) (r a : ℕ → ℕ
   more : lives (put cs f y) ≡ suc (lives cs)
   long : length (put cs f y) ≡ length cs
 
-filled : (f g : ℕ) (cs : List Cell) (y : Cell) (r₁ r a : ℕ → ℕ) → Held g cs r₁ (λ d. a d + same f d) → y .count ≡ 1 → y .kind ≤ 1 → ((d : ℕ) → d ≢ 0 → r₁ d ≡ r d + gives d y) → Filled f g cs y r a
+filled : (f g : ℕ) (cs : List Cell) (y : Cell) (r₁ r a : ℕ → ℕ) → Held g cs r₁ (λ d. a d + same f d) → y .count ≡ 1 → y .kind ≤ 1
+    → ((d : ℕ) → d ≢ 0 → r₁ d ≡ r d + gives d y) → Filled f g cs y r a
 filled f g cs y r₁ r a h one k from =
     let (inside, z) = aside-cell g cs r₁ (λ d. a d + same f d) f h (omega (arith, same-eq f)) in
     record {
@@ -50,7 +52,8 @@ filled f g cs y r₁ r a h one k from =
       long = put-length cs f y;
     }
 
-one-more : (f : ℕ) (cs : List Cell) (r a : ℕ → ℕ) → Held f cs r (λ d. a d) → (g : ℕ) → Held g cs r (λ d. a d + same f d) → upto (length cs) (λ d. a d + same f d) ≡ suc (upto (length cs) a)
+one-more : (f : ℕ) (cs : List Cell) (r a : ℕ → ℕ) → Held f cs r (λ d. a d) → (g : ℕ) → Held g cs r (λ d. a d + same f d)
+    → upto (length cs) (λ d. a d + same f d) ≡ suc (upto (length cs) a)
 one-more f cs r a _ g h =
     let (inside, z) = aside-cell g cs r (λ d. a d + same f d) f h (omega (arith, same-eq f)) in
     omega (arith, upto-add (length cs) a (same f), upto-same (length cs) f (inside .0) (inside .1))
@@ -71,15 +74,12 @@ loads (atom v l) f cs r a h room =
     let z = load l (nextOf cs f) cs in
     let t : Loaded cs l r a′ z = loads l (nextOf cs f) cs r a′ h′ (omega (arith, one-more f cs r a h (nextOf cs f) h′)) in
     let y : Cell = record { kind = 0; elem = v; count = 1; next = z .head } in
-    let w : Filled f (z .free) (z .cells) y r a = filled f (z .free) (z .cells) y (λ d. same (z .head) d + r d) r a (t .held) refl (omega arith) (λ d n. omega (arith, gives-atom d y refl)) in
+    let w : Filled f (z .free) (z .cells) y r a = filled f (z .free) (z .cells) y (λ d. same (z .head) d + r d) r a (t .held) refl (omega arith)
+    (λ d n. omega (arith, gives-atom d y refl)) in
     record {
       held = w .held;
-      gets = (
-        subst (λ x. 0 < x .count) (sym (w .here)) (omega arith),
-        ap (λ x. x .kind) (w .here),
-        ap (λ x. x .elem) (w .here),
-        subst (λ u. ListAt (put (z .cells) f y) u l) (sym (ap (λ x. x .next) (w .here))) (ListAt-grown (z .cells) (put (z .cells) f y) (w .grown) l (z .head) (t .gets)),
-      );
+      gets = heads-atom (put (z .cells) f y) f y v l (w .here) (omega arith) refl refl
+          (ListAt-grown (z .cells) (put (z .cells) f y) (w .grown) l (z .head) (t .gets));
       grown = Kept-trans (put (z .cells) f y) (z .cells) cs (w .grown) (t .grown);
       more = omega (arith, w .more, t .more);
       long = w .long ∙ t .long;
@@ -95,15 +95,13 @@ loads (list e l) f cs r a h room =
     (omega (arith, one-more f cs r a h (nextOf cs f) h′, s .more, s .long, ap (λ n. upto n a′) (s .long))) in
     let y : Cell = record { kind = 1; elem = u .head; count = 1; next = z .head } in
     let ds : List Cell = put (z .cells) f y in
-    let w : Filled f (z .free) (z .cells) y r a = filled f (z .free) (z .cells) y (λ d. same (z .head) d + (same (u .head) d + r d)) r a (t .held) refl (omega arith) (λ d n. omega (arith, gives-list d y refl)) in
+    let w : Filled f (z .free) (z .cells) y r a = filled f (z .free) (z .cells) y (λ d. same (z .head) d + (same (u .head) d + r d)) r a (t .held) refl
+    (omega arith) (λ d n. omega (arith, gives-list d y refl)) in
     record {
       held = w .held;
-      gets = (
-        subst (λ x. 0 < x .count) (sym (w .here)) (omega arith),
-        ap (λ x. x .kind) (w .here),
-        subst (λ v. ListAt ds v e) (sym (ap (λ x. x .elem) (w .here))) (ListAt-grown (z .cells) ds (w .grown) e (u .head) (ListAt-grown (u .cells) (z .cells) (t .grown) e (u .head) (s .gets))),
-        subst (λ v. ListAt ds v l) (sym (ap (λ x. x .next) (w .here))) (ListAt-grown (z .cells) ds (w .grown) l (z .head) (t .gets)),
-      );
+      gets = heads-list ds f y e l (w .here) (omega arith) refl
+          (ListAt-grown (z .cells) ds (w .grown) e (u .head) (ListAt-grown (u .cells) (z .cells) (t .grown) e (u .head) (s .gets)))
+          (ListAt-grown (z .cells) ds (w .grown) l (z .head) (t .gets));
       grown = Kept-trans ds (z .cells) cs (w .grown) (Kept-trans (z .cells) (u .cells) cs (t .grown) (s .grown));
       more = omega (arith, w .more, t .more, s .more);
       long = w .long ∙ t .long ∙ s .long;
@@ -121,7 +119,8 @@ unfolding upto
 upto-none zero = refl
 upto-none (suc n) = omega (arith, upto-none n)
 
-pub read-does : (p : Pool) (h : ℕ) (l : Lst) → Sound p → h < length (p .holders) → holder p h ≡ 0 → lives (p .cells) + extent l ≤ length (p .cells) → Read p h l (read p h l)
+pub read-does : (p : Pool) (h : ℕ) (l : Lst) → Sound p → h < length (p .holders) → holder p h ≡ 0 → lives (p .cells) + extent l ≤ length (p .cells)
+    → Read p h l (read p h l)
 unfolding read
 read-does p h l s lh nh room =
     let cs = p .cells in
@@ -132,5 +131,6 @@ read-does p h l s lh nh room =
       sound = held-sound (read p h l) (reroot (z .free) (z .cells) (λ d. same (z .head) d + occ hs d) none-aside (occ (set hs h (z .head))) none-aside (t .held)
           (λ d n. omega (arith, occ-give hs h (z .head) d lh n, occ-take hs h d lh n, ap (λ u. same u d) nh, same-ne 0 d (λ q. n (sym q)))) (λ d. refl));
       gets = subst (λ u. ListAt (z .cells) u l) (sym (getD-set-same hs h (z .head) 0 lh)) (t .gets);
-      others = λ i m n w. subst (λ u. ListAt (z .cells) u m) (sym (getD-set-other hs h i (z .head) 0 n)) (ListAt-grown cs (z .cells) (t .grown) m (holder p i) w);
+      others = λ i m n w. subst (λ u. ListAt (z .cells) u m) (sym (getD-set-other hs h i (z .head) 0 n))
+          (ListAt-grown cs (z .cells) (t .grown) m (holder p i) w);
     }

@@ -62,10 +62,12 @@ live-cases cs c = go (ℕ-discrete (countOf cs c) 0)
 -- the live cells are counted by `lives`
 pub number-live : (cs : List Cell) → Number (Live cs) (length cs) (lives cs)
 unfolding lives live1
-number-live cs = subst (Number (Live cs) (length cs)) (sym (tally-upto (λ x. ifLive (x .count) 1) cs)) (number-upto (Live cs) (length cs) (live1 cs) (live-cases cs))
+number-live cs =
+    subst (Number (Live cs) (length cs)) (sym (tally-upto (λ x. ifLive (x .count) 1) cs)) (number-upto (Live cs) (length cs) (live1 cs) (live-cases cs))
 
 -- those that were live and are not: by how much `lives` has gone down
-pub number-freed : (cs ds : List Cell) (n : ℕ) → Kept cs ds → length ds ≡ length cs → n + lives ds ≡ lives cs → Number (λ c. Live cs c × (Live ds c → ⊥)) (length cs) n
+pub number-freed : (cs ds : List Cell) (n : ℕ) → Kept cs ds → length ds ≡ length cs → n + lives ds ≡ lives cs
+    → Number (λ c. Live cs c × (Live ds c → ⊥)) (length cs) n
 unfolding lives live1
 number-freed cs ds n k len e =
     subst (Number (λ c. Live cs c × (Live ds c → ⊥)) (length cs))
@@ -75,7 +77,8 @@ number-freed cs ds n k len e =
     below : (c : ℕ) → live1 ds c ≤ live1 cs c
     below c = go (live-cases ds c) (live-cases cs c)
       where
-        go : ((live1 ds c ≡ 1) × Live ds c) ⊎ ((live1 ds c ≡ 0) × (Live ds c → ⊥)) → ((live1 cs c ≡ 1) × Live cs c) ⊎ ((live1 cs c ≡ 0) × (Live cs c → ⊥)) → live1 ds c ≤ live1 cs c
+        go : ((live1 ds c ≡ 1) × Live ds c) ⊎ ((live1 ds c ≡ 0) × (Live ds c → ⊥))
+            → ((live1 cs c ≡ 1) × Live cs c) ⊎ ((live1 cs c ≡ 0) × (Live cs c → ⊥)) → live1 ds c ≤ live1 cs c
         go (inr (z, _)) _ = omega arith
         go (inl (z, l)) (inl (y, _)) = omega arith
         go (inl (z, l)) (inr (y, d)) = absurd (d (k c l .0))

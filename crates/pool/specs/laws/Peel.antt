@@ -20,26 +20,33 @@ use Rattle.pool.specs.laws.Frame.{put-cases}
 pub data Peels : List Cell → (ℕ → ℕ) → List Cell → (ℕ → ℕ) → Type 0 where
   done : {cs : List Cell} {r : ℕ → ℕ} → Peels cs r cs r
   skip : {cs ds : List Cell} {r r₁ r₂ : ℕ → ℕ} → ((d : ℕ) → d ≢ 0 → r₁ d ≡ r d) → Peels cs r₁ ds r₂ → Peels cs r ds r₂
-  less : {cs ds : List Cell} {r r₁ r₂ : ℕ → ℕ} (x k : ℕ) → countOf cs x ≡ suc (suc k) → ((d : ℕ) → d ≢ 0 → r₁ d + same x d ≡ r d) → Peels (setCount cs x (suc k)) r₁ ds r₂ → Peels cs r ds r₂
-  away : {cs ds : List Cell} {r r₁ r₂ : ℕ → ℕ} (x : ℕ) → countOf cs x ≡ 1 → 0 < r x → ((d : ℕ) → d ≢ 0 → r₁ d + same x d ≡ r d + gives d (at cs x)) → Peels (setCount cs x 0) r₁ ds r₂ → Peels cs r ds r₂
+  less : {cs ds : List Cell} {r r₁ r₂ : ℕ → ℕ} (x k : ℕ) → countOf cs x ≡ suc (suc k) → ((d : ℕ) → d ≢ 0 → r₁ d + same x d ≡ r d)
+      → Peels (setCount cs x (suc k)) r₁ ds r₂ → Peels cs r ds r₂
+  away : {cs ds : List Cell} {r r₁ r₂ : ℕ → ℕ} (x : ℕ) → countOf cs x ≡ 1 → 0 < r x → ((d : ℕ) → d ≢ 0 → r₁ d + same x d ≡ r d + gives d (at cs x))
+      → Peels (setCount cs x 0) r₁ ds r₂ → Peels cs r ds r₂
 
 skip-law : (cs : List Cell) (r r₁ : ℕ → ℕ) → ((d : ℕ) → d ≢ 0 → r₁ d ≡ r d) → Law cs r → Law cs r₁
 skip-law cs r r₁ e law d n = omega (arith, law d n, e d n)
 
-less-law : (cs : List Cell) (x k : ℕ) (r r₁ : ℕ → ℕ) → countOf cs x ≡ suc (suc k) → ((d : ℕ) → d ≢ 0 → r₁ d + same x d ≡ r d) → Law cs r → Law (setCount cs x (suc k)) r₁
+less-law : (cs : List Cell) (x k : ℕ) (r r₁ : ℕ → ℕ) → countOf cs x ≡ suc (suc k) → ((d : ℕ) → d ≢ 0 → r₁ d + same x d ≡ r d) → Law cs r
+    → Law (setCount cs x (suc k)) r₁
 less-law cs x k r r₁ e roots law =
     let inside = live-cell cs x (omega arith) in
     let y : Cell = counted (at cs x) (suc k) in
-    let alike : (d : ℕ) → sends d y ≡ sends d (at cs x) = λ d. sends-live d y (omega arith) ∙ gives-counted d (at cs x) (suc k) ∙ sym (sends-live d (at cs x) (omega arith)) in
-    put-law cs x y inside r r₁ law (omega (arith, alike x, roots x (omega arith), same-eq x)) (λ d n m. omega (arith, alike d, roots d m, same-ne x d (λ q. n (sym q))))
+    let alike : (d : ℕ) → sends d y ≡ sends d (at cs x) = λ d. sends-live d y (omega arith) ∙ gives-counted d (at cs x) (suc k) ∙ sym
+    (sends-live d (at cs x) (omega arith)) in
+    put-law cs x y inside r r₁ law (omega (arith, alike x, roots x (omega arith), same-eq x))
+    (λ d n m. omega (arith, alike d, roots d m, same-ne x d (λ q. n (sym q))))
 
-away-law : (cs : List Cell) (x : ℕ) (r r₁ : ℕ → ℕ) → countOf cs x ≡ 1 → ((d : ℕ) → d ≢ 0 → r₁ d + same x d ≡ r d + gives d (at cs x)) → Law cs r → Law (setCount cs x 0) r₁
+away-law : (cs : List Cell) (x : ℕ) (r r₁ : ℕ → ℕ) → countOf cs x ≡ 1 → ((d : ℕ) → d ≢ 0 → r₁ d + same x d ≡ r d + gives d (at cs x)) → Law cs r
+    → Law (setCount cs x 0) r₁
 away-law cs x r r₁ e roots law =
     let inside = live-cell cs x (omega arith) in
     let y : Cell = counted (at cs x) 0 in
     let old : (d : ℕ) → sends d (at cs x) ≡ gives d (at cs x) = λ d. sends-live d (at cs x) (omega arith) in
     let now : (d : ℕ) → sends d y ≡ 0 = λ d. sends-free d y refl in
-    put-law cs x y inside r r₁ law (omega (arith, old x, now x, roots x (omega arith), same-eq x)) (λ d n m. omega (arith, old d, now d, roots d m, same-ne x d (λ q. n (sym q))))
+    put-law cs x y inside r r₁ law (omega (arith, old x, now x, roots x (omega arith), same-eq x))
+    (λ d n m. omega (arith, old d, now d, roots d m, same-ne x d (λ q. n (sym q))))
 
 -- the laws go forwards
 pub Peels-law : {cs ds : List Cell} {r s : ℕ → ℕ} → Peels cs r ds s → Law cs r → Law ds s
@@ -78,7 +85,8 @@ away-back cs x r law e l h =
 pub Peels-back : {cs ds : List Cell} {r s : ℕ → ℕ} → Peels cs r ds s → Law cs r → Acyclic ds → Acyclic cs
 Peels-back done law h = h
 Peels-back (skip {cs = cs} {r = r} {r₁ = r₁} e t) law h = Peels-back t (skip-law cs r r₁ e law) h
-Peels-back (less {cs = cs} {r = r} {r₁ = r₁} x k e roots t) law h = same-walks cs x (suc k) (omega arith) (omega arith) (Peels-back t (less-law cs x k r r₁ e roots law) h)
+Peels-back (less {cs = cs} {r = r} {r₁ = r₁} x k e roots t) law h =
+    same-walks cs x (suc k) (omega arith) (omega arith) (Peels-back t (less-law cs x k r r₁ e roots law) h)
 Peels-back (away {cs = cs} {r = r} {r₁ = r₁} x e l roots t) law h = away-back cs x r law e l (Peels-back t (away-law cs x r r₁ e roots law) h)
 
 -- when no root is left: no cell is live exactly if nothing reached itself

@@ -159,7 +159,8 @@ module _ (cs : List Cell) (r : ℕ → ℕ) (law : Law cs r) (acyclic : Acyclic 
   unfolding Walk
   roots zero vs c one g l m = absurd (too-many cs vs c one (λ v q. g v q .0) (omega arith))
   roots (suc k) vs c one g l m =
-      go (λ b s. roots k (c ∷ vs) b (new vs c one (λ o. acyclic c (g c o .1 .0) (g c o .1 .1))) (after-step cs vs b c l s g) (s .0) (omega arith)) (ℕ-discrete (r c) 0)
+      go (λ b s. roots k (c ∷ vs) b (new vs c one (λ o. acyclic c (g c o .1 .0) (g c o .1 .1))) (after-step cs vs b c l s g) (s .0) (omega arith))
+      (ℕ-discrete (r c) 0)
     where
       go : ((b : ℕ) → Step cs b c → Rooted b) → Dec (r c ≡ 0) → Rooted c
       go up (no n) = (c, omega (arith, live-cell cs c l), omega arith, (0, refl))
@@ -214,7 +215,8 @@ module _ (f : ℕ) (cs : List Cell) (r a : ℕ → ℕ) (h : Held f cs r a) wher
       let k = paths l (c ∷ vs) (nextOf cs c) (fresh-cell c vs one b) (before-step cs vs c (nextOf cs c) (h′ .0) (h′ .0, inl refl) b) (h′ .3) in omega arith
   paths (list e l) vs c one b h′ =
       let k = paths l (c ∷ vs) (nextOf cs c) (fresh-cell c vs one b) (before-step cs vs c (nextOf cs c) (h′ .0) (h′ .0, inl refl) b) (h′ .3) in
-      let i = paths e (c ∷ vs) (elemOf cs c) (fresh-cell c vs one b) (before-step cs vs c (elemOf cs c) (h′ .0) (h′ .0, inr (h′ .1, refl)) b) (h′ .2) in omega arith
+      let i = paths e (c ∷ vs) (elemOf cs c) (fresh-cell c vs one b) (before-step cs vs c (elemOf cs c) (h′ .0) (h′ .0, inr (h′ .1, refl)) b)
+      (h′ .2) in omega arith
 
   pub path-le : (l : Lst) (c : ℕ) → ListAt cs c l → path l ≤ length cs
   unfolding tally
@@ -235,7 +237,8 @@ unfolding listFrom
 read-atom k cs zero l e = absurd (omega (arith, live-cell cs zero l))
 read-atom k cs (suc i) l e = rw (eq-eqb (kindOf cs (suc i)) 0 e)
 
-read-list : (k : ℕ) (cs : List Cell) (c : ℕ) → Live cs c → kindOf cs c ≡ 1 → listFrom (suc k) cs c ≡ list (listFrom k cs (elemOf cs c)) (listFrom k cs (nextOf cs c))
+read-list : (k : ℕ) (cs : List Cell) (c : ℕ) → Live cs c → kindOf cs c ≡ 1
+    → listFrom (suc k) cs c ≡ list (listFrom k cs (elemOf cs c)) (listFrom k cs (nextOf cs c))
 unfolding listFrom
 read-list k cs zero l e = absurd (omega (arith, live-cell cs zero l))
 read-list k cs (suc i) l e = rw (ne-eqb (kindOf cs (suc i)) 0 (omega arith))

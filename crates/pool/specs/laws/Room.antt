@@ -81,7 +81,8 @@ frees-lives (x ∷ xs) = go (frees-lives xs) (ℕ-discrete (x .count) 0)
 
 pub marks-lives : (cs : List Cell) → upto (length cs) (mark cs) + lives cs ≡ length cs
 unfolding frees
-marks-lives cs = omega (arith, frees-lives cs, tally-upto (λ x. same (x .count) 0) cs, upto-in (length cs) (mark cs) (λ c. same (countOf cs c) 0) (λ c l m. mark-cell cs c l m))
+marks-lives cs =
+    omega (arith, frees-lives cs, tally-upto (λ x. same (x .count) 0) cs, upto-in (length cs) (mark cs) (λ c. same (countOf cs c) 0) (λ c l m. mark-cell cs c l m))
 
 pub room-aside : (f : ℕ) (cs : List Cell) (r a : ℕ → ℕ) → Held f cs r a → upto (length cs) a + lives cs < length cs → f ≢ 0
 unfolding Chain tally

@@ -109,17 +109,21 @@ module _ (p : Pool) (o : Operation) (s : Sound p) (h : Allowed p o) where
       let (lb, ab) = b-holder p o (h .opened) (ap usesB e) in
       let w = with-code p o DECAP e h in
       let x = holder p (o .a) in
-      let one = own-head p (o .a) s (eqb-false x 0 (w .filled)) (ltb-false 1 (countOf (p .cells) x) (both-false (ltb 1 (countOf (p .cells) x)) false (w .own) .0)) in
+      let one = own-head p (o .a) s (eqb-false x 0 (w .filled))
+      (ltb-false 1 (countOf (p .cells) x) (both-false (ltb 1 (countOf (p .cells) x)) false (w .own) .0)) in
       decap-does p (o .a) (o .b) s (a-holder p o (h .opened)) lb ab (eqb-true (holder p (o .b)) 0 (not-false _ (w .vacant))) one .sound
 
   sound-adv : o .code ≡ ADV → Sound (adv p (o .a) (o .b))
   sound-adv e =
       let (lb, ab) = b-holder p o (h .opened) (ap usesB e) in
       let w = with-code p o ADV e h in
-      adv-does p (o .a) (o .b) s (a-holder p o (h .opened)) lb ab (eqb-true (holder p (o .b)) 0 (not-false _ (w .vacant))) (eqb-false (holder p (o .a)) 0 (w .filled)) .sound
+      adv-does p (o .a) (o .b) s (a-holder p o (h .opened)) lb ab (eqb-true (holder p (o .b)) 0 (not-false _ (w .vacant)))
+      (eqb-false (holder p (o .a)) 0 (w .filled)) .sound
 
   sound-borrow : o .code ≡ BORROW → Sound (borrow p (o .a) (o .b))
-  sound-borrow e = borrow-does p (o .a) (o .b) s (b-holder p o (h .opened) (ap usesB e) .0) (eqb-true (holder p (o .b)) 0 (not-false _ (with-code p o BORROW e h .vacant))) .sound
+  sound-borrow e =
+      borrow-does p (o .a) (o .b) s (b-holder p o (h .opened) (ap usesB e) .0)
+      (eqb-true (holder p (o .b)) 0 (not-false _ (with-code p o BORROW e h .vacant))) .sound
 
   sound-inv : o .code ≡ INV → Sound (inv p (o .a))
   sound-inv e =
@@ -146,7 +150,8 @@ module _ (p : Pool) (o : Operation) (s : Sound p) (h : Allowed p o) where
 
 pub after-sound : (p : Pool) (o : Operation) → Sound p → Sound (poolAfter p o)
 unfolding poolAfter
-after-sound p o s = either-way Sound (eqb (refusal p o) DONE) (effect p o .pool) p (λ e. effect-sound p o s (allowed p o (eqb-true (refusal p o) DONE e))) (λ e. s)
+after-sound p o s =
+    either-way Sound (eqb (refusal p o) DONE) (effect p o .pool) p (λ e. effect-sound p o s (allowed p o (eqb-true (refusal p o) DONE e))) (λ e. s)
 
 -- a whole script
 
@@ -154,10 +159,12 @@ pub performed-sound : (os : List Operation) (p : Pool) → Sound p → Sound (pe
 unfolding performed
 performed-sound [] p s = s
 performed-sound (o ∷ os) p s =
-    either-way (λ (r : Run). Sound (r .pool)) (eqb (refusal p o) DONE) _ _ (λ e. performed-sound os (effect p o .pool) (effect-sound p o s (allowed p o (eqb-true (refusal p o) DONE e)))) (λ e. s)
+    either-way (λ (r : Run). Sound (r .pool)) (eqb (refusal p o) DONE) _ _
+    (λ e. performed-sound os (effect p o .pool) (effect-sound p o s (allowed p o (eqb-true (refusal p o) DONE e)))) (λ e. s)
 
 pub performed-alike : (os : List Operation) (p : Pool) → Alike p (performed p os .pool)
 unfolding performed
 performed-alike [] p = alike-refl p
 performed-alike (o ∷ os) p =
-    either-way (λ (r : Run). Alike p (r .pool)) (eqb (refusal p o) DONE) _ _ (λ e. alike-trans (effect-alike p o) (performed-alike os (effect p o .pool))) (λ e. alike-refl p)
+    either-way (λ (r : Run). Alike p (r .pool)) (eqb (refusal p o) DONE) _ _ (λ e. alike-trans (effect-alike p o) (performed-alike os (effect p o .pool)))
+    (λ e. alike-refl p)

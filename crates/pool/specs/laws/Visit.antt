@@ -16,22 +16,26 @@ unfolding step
 step-at f cs zero b n l = absurd (omega arith)
 step-at f cs (suc i) b n l = refl
 
-pub step-pop : (f : ℕ) (cs : List Cell) (x b n : ℕ) → x ≡ 0 → 1 ≤ b → step f cs x b n ≡ record { free = b; cells = setNext cs b f; here = elemOf cs b; waiting = nextOf cs b; freed = suc n }
+pub step-pop : (f : ℕ) (cs : List Cell) (x b n : ℕ) → x ≡ 0 → 1 ≤ b
+    → step f cs x b n ≡ record { free = b; cells = setNext cs b f; here = elemOf cs b; waiting = nextOf cs b; freed = suc n }
 unfolding step
 step-pop f cs zero zero n e l = absurd (omega arith)
 step-pop f cs zero (suc j) n e l = refl
 step-pop f cs (suc i) b n e l = absurd (omega arith)
 
-pub visit-shared : (f : ℕ) (cs : List Cell) (x b n k t : ℕ) → k ≢ 0 → visit f cs x b n k t ≡ record { free = f; cells = setCount cs x k; here = 0; waiting = b; freed = n }
+pub visit-shared : (f : ℕ) (cs : List Cell) (x b n k t : ℕ) → k ≢ 0
+    → visit f cs x b n k t ≡ record { free = f; cells = setCount cs x k; here = 0; waiting = b; freed = n }
 unfolding visit
 visit-shared f cs x b n zero t m = absurd (m refl)
 visit-shared f cs x b n (suc k) t m = refl
 
-pub visit-atom : (f : ℕ) (cs : List Cell) (x b n k t : ℕ) → k ≡ 0 → t ≡ 0 → visit f cs x b n k t ≡ record { free = x; cells = setNext (setCount cs x k) x f; here = nextOf cs x; waiting = b; freed = suc n }
+pub visit-atom : (f : ℕ) (cs : List Cell) (x b n k t : ℕ) → k ≡ 0 → t ≡ 0
+    → visit f cs x b n k t ≡ record { free = x; cells = setNext (setCount cs x k) x f; here = nextOf cs x; waiting = b; freed = suc n }
 unfolding visit
 visit-atom f cs x b n k t e g = rw (e, g) refl
 
-pub visit-list : (f : ℕ) (cs : List Cell) (x b n k t : ℕ) → k ≡ 0 → t ≢ 0 → visit f cs x b n k t ≡ record { free = f; cells = setNext (setCount cs x k) x b; here = nextOf cs x; waiting = x; freed = n }
+pub visit-list : (f : ℕ) (cs : List Cell) (x b n k t : ℕ) → k ≡ 0 → t ≢ 0
+    → visit f cs x b n k t ≡ record { free = f; cells = setNext (setCount cs x k) x b; here = nextOf cs x; waiting = x; freed = n }
 unfolding visit
 visit-list f cs x b n (suc k) t e m = absurd (omega arith)
 visit-list f cs x b n zero zero e m = absurd (m refl)
@@ -70,11 +74,13 @@ pub at-end : (w : Dropping) → w .here ≡ 0 → w .waiting ≡ 0 → stopped w
 at-end w e g = λ i. record { free = w .free; cells = w .cells; here = sym e i; waiting = sym g i; freed = w .freed }
 
 -- what erasing leaves is any end that steps lead to
-pub dropped-is : (r : ℕ → ℕ) (f : ℕ) (cs : List Cell) (x : ℕ) (v : Dropping) → Held f cs (λ c. same x c + r c) (λ c. 0) → Leads (record { free = f; cells = cs; here = x; waiting = 0; freed = 0 }) v → v .here ≡ 0 → v .waiting ≡ 0 → dropped f cs x ≡ v
+pub dropped-is : (r : ℕ → ℕ) (f : ℕ) (cs : List Cell) (x : ℕ) (v : Dropping) → Held f cs (λ c. same x c + r c) (λ c. 0)
+    → Leads (record { free = f; cells = cs; here = x; waiting = 0; freed = 0 }) v → v .here ≡ 0 → v .waiting ≡ 0 → dropped f cs x ≡ v
 unfolding dropped
 dropped-is r f cs x v h l e g =
     let w : Dropping = record { free = f; cells = cs; here = x; waiting = 0; freed = 0 } in
     let n : ℕ = total cs + total cs in
     let d = dropped-done r f cs x h in
     let swap : l .steps + n ≡ n + l .steps = omega arith in
-    sym (at-end (dropping n w) (d .1) (d .2)) ∙ sym (dropping-stop (l .steps) (dropping n w) (d .1) (d .2)) ∙ sym (dropping-add n (l .steps) w) ∙ ap (λ (j : ℕ). dropping j w) (sym swap) ∙ l .joins n ∙ dropping-stop n v e g ∙ at-end v e g
+    sym (at-end (dropping n w) (d .1) (d .2)) ∙ sym (dropping-stop (l .steps) (dropping n w) (d .1) (d .2)) ∙ sym (dropping-add n (l .steps) w)
+    ∙ ap (λ (j : ℕ). dropping j w) (sym swap) ∙ l .joins n ∙ dropping-stop n v e g ∙ at-end v e g

@@ -68,7 +68,8 @@ module _ (s : Scan) (n : ℕ) (t : List ℕ) (m : ℕ) (hyp : Hyp n t m) (ok : F
       (λ a. faulted s n t m (opened ∷ []) 15)
 
   shut-end : (es : List Mark) → Levels (s .depth - 1) es → Levels (s .depth) (pending s ++ (shut ∷ []) ++ es)
-  shut-end es h = subst (Levels (s .depth)) (sym (append-assoc (pending s) (shut ∷ []) es)) (waiting (isAtom (s .phase)) (s .depth) (s .value) (shut ∷ es) (ok .0) h)
+  shut-end es h =
+      subst (Levels (s .depth)) (sym (append-assoc (pending s) (shut ∷ []) es)) (waiting (isAtom (s .phase)) (s .depth) (s .value) (shut ∷ es) (ok .0) h)
 
   shut-case : Claim s n t m (pending s ++ (shut ∷ [])) (shutAt (s .phase) (s .depth))
   shut-case =
@@ -77,13 +78,15 @@ module _ (s : Scan) (n : ℕ) (t : List ℕ) (m : ℕ) (hyp : Hyp n t m) (ok : F
       (λ h e. let z : 0 ≡ s .depth - 1 = omega (arith, ltb-true (s .depth) 2 h) in
       shut-end (trace (settle (n + 1) (mark (place afterAll 0 0 0))) t)
       (subst (λ (j : ℕ). Levels j (trace (settle (n + 1) (mark (place afterAll 0 0 0))) t)) z (hyp (place afterAll 0 0 0) (omega arith, λ y. refl) e)))
-      (λ h e. shut-end (trace (settle (n + 1) (mark (place afterElement (s .depth - 1) 0 0))) t) (hyp (place afterElement (s .depth - 1) 0 0) (omega arith, λ y. no-yes y) e)))
+      (λ h e. shut-end (trace (settle (n + 1) (mark (place afterElement (s .depth - 1) 0 0))) t)
+      (hyp (place afterElement (s .depth - 1) 0 0) (omega arith, λ y. no-yes y) e)))
       (λ a. faulted s n t m (pending s ++ (shut ∷ [])) 15)
 
   comma-case : Claim s n t m (pending s) (commaAt (s .phase) (s .depth))
   comma-case =
       by-case (mayPart (s .phase)) (Claim s n t m (pending s))
-      (λ a e. waiting (isAtom (s .phase)) (s .depth) (s .value) (trace (settle (n + 1) (mark (place afterComma (s .depth) 0 0))) t) (ok .0) (hyp (place afterComma (s .depth) 0 0) (omega arith, λ y. no-yes y) e))
+      (λ a e. waiting (isAtom (s .phase)) (s .depth) (s .value) (trace (settle (n + 1) (mark (place afterComma (s .depth) 0 0))) t) (ok .0)
+      (hyp (place afterComma (s .depth) 0 0) (omega arith, λ y. no-yes y) e))
       (λ a. faulted s n t m (pending s) 15)
 
   digit-case : (x : ℕ) → x < 8 → Claim s n t m [] (digitAt s x)
@@ -100,7 +103,8 @@ module _ (s : Scan) (n : ℕ) (t : List ℕ) (m : ℕ) (hyp : Hyp n t m) (ok : F
   blank-case : Claim s n t m [] (blankAt (s .phase))
   blank-case =
       by-case (isOver (s .phase)) (Claim s n t m [])
-      (λ a e. subst (λ (j : ℕ). Levels j (trace (settle (n + 1) (mark (place afterAll 0 0 0))) t)) (sym (ok .1 a)) (hyp (place afterAll 0 0 0) (omega arith, λ y. refl) e))
+      (λ a e. subst (λ (j : ℕ). Levels j (trace (settle (n + 1) (mark (place afterAll 0 0 0))) t)) (sym (ok .1 a))
+      (hyp (place afterAll 0 0 0) (omega arith, λ y. refl) e))
       (λ a. faulted s n t m [] 15)
 
   one-char : (b : ℕ) → Class b → Claim s n t m (met (at s n) b) (stepOf s b)

@@ -58,12 +58,14 @@ abbrev pub Good : Phase → ℕ → ℕ → List ℕ → List Mark → Type 0
 Good atStart d v t es = (l : Lst) × (es ≡ marksOf true l) × (bare false t ≡ items true l)
 Good afterOpen d v t es = (l : Lst) × (r : List Lst) × (es ≡ tailsMarks (l ∷ r)) × (length r + 1 ≡ d) × (bare false t ≡ body l ++ tails r)
 Good afterComma d v t es = (l : Lst) × (r : List Lst) × (es ≡ tailsMarks (l ∷ r)) × (length r + 1 ≡ d) × (bare false t ≡ body l ++ tails r) × Some l
-Good inAtom d v t es = (w : ℕ) × (l : Lst) × (r : List Lst) × (es ≡ tailsMarks (atom w l ∷ r)) × (length r + 1 ≡ d) × (kept v t ≡ octal w ++ (items false l ++ tails r))
+Good inAtom d v t es =
+    (w : ℕ) × (l : Lst) × (r : List Lst) × (es ≡ tailsMarks (atom w l ∷ r)) × (length r + 1 ≡ d) × (kept v t ≡ octal w ++ (items false l ++ tails r))
 Good afterElement d v t es = (r : List Lst) × (es ≡ tailsMarks r) × (length r ≡ d) × (bare false t ≡ tails r)
 Good afterAll d v t es = (es ≡ []) × (bare false t ≡ [])
 
 -- "(": from what follows it
-inner : (l : Lst) (r : List Lst) (es : List Mark) (d : ℕ) (t : List ℕ) → 1 ≤ d → es ≡ tailsMarks (l ∷ r) → length r + 1 ≡ d + 1 → bare false t ≡ body l ++ tails r
+inner : (l : Lst) (r : List Lst) (es : List Mark) (d : ℕ) (t : List ℕ) → 1 ≤ d → es ≡ tailsMarks (l ∷ r) → length r + 1 ≡ d + 1
+    → bare false t ≡ body l ++ tails r
     → (k : Lst) × (q : List Lst) × (opened ∷ es ≡ tailsMarks (k ∷ q)) × (length q + 1 ≡ d) × (bare false (40 ∷ t) ≡ body k ++ tails q) × Some k
 inner l [] es d t h e n b = absurd (omega arith)
 inner l (m ∷ r) es d t h e n b = (
@@ -86,7 +88,8 @@ outer l [] es t e n b = (
 )
 outer l (m ∷ r) es t e n b = absurd (omega arith)
 
-pub open-good : (p : Phase) (d v : ℕ) (t : List ℕ) (es : List Mark) → mayOpen p ≡ true → Ok p d → Good afterOpen (d + 1) 0 t es → Good p d v (40 ∷ t) (opened ∷ es)
+pub open-good : (p : Phase) (d v : ℕ) (t : List ℕ) (es : List Mark) → mayOpen p ≡ true → Ok p d → Good afterOpen (d + 1) 0 t es
+    → Good p d v (40 ∷ t) (opened ∷ es)
 open-good atStart d v t es m ok (l, r, e, n, b) = outer l r es t e (omega (arith, ok, n)) b
 open-good afterOpen d v t es m ok (l, r, e, n, b) = let g = inner l r es d t ok e n b in (g .0, g .1, g .2, g .3, g .4)
 open-good afterComma d v t es m ok (l, r, e, n, b) = inner l r es d t ok e n b

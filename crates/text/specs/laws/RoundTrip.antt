@@ -160,8 +160,10 @@ reads (atom v l) = (
 reads (list m l) = (
   (λ s n a b h f. seq (44 ∷ []) (items true m ++ items false l) (pending s) (marksOf true m ++ marksOf false l) s (place afterComma (s .depth) 0 0) n (s .depth)
       (comma s n b) (append-nil (pending s)) (list-on m l ((reads m) .1) ((reads l) .0) (place afterComma (s .depth) 0 0) (n + 1) refl h f)),
-  (λ s n a f. seq (40 ∷ []) (items true m ++ items false l) (opened ∷ []) (marksOf true m ++ marksOf false l) s (place afterOpen (s .depth + 1) 0 0) n (s .depth + 1)
-      (opens s n a (omega (arith, f .0, order-pos l))) refl (list-on m l ((reads m) .1) ((reads l) .0) (place afterOpen (s .depth + 1) 0 0) (n + 1) refl (omega arith) f)),
+  (λ s n a f. seq (40 ∷ []) (items true m ++ items false l) (opened ∷ []) (marksOf true m ++ marksOf false l) s (place afterOpen (s .depth + 1) 0 0) n
+      (s .depth + 1)
+      (opens s n a (omega (arith, f .0, order-pos l))) refl (list-on m l ((reads m) .1) ((reads l) .0) (place afterOpen (s .depth + 1) 0 0) (n + 1) refl
+      (omega arith) f)),
 )
 
 -- the fill
