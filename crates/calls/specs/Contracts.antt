@@ -4,9 +4,15 @@ use mathlib.Core.List.{List}
 use Prim.Native.Nat.{ℕ}
 use Rattle.answers.specs.Answers.{outcome}
 use Rattle.answers.specs.declared.Outcome.{Outcome}
+use Rattle.calls.specs.SetUp.{Given}
 use Rattle.calls.specs.Run.{Ran}
 use Rattle.calls.specs.Read.{Read}
 use Rattle.calls.specs.Write.{Write}
+
+-- setting up: the table
+pub record SetsUp (r : ℕ) (us : List ℕ) (g : Given) : Type 0 where
+  pub answer : r ≡ g .answer
+  pub table : us ≡ g .table
 
 -- a script run: table, work space and results
 pub record Runs (r : Outcome) (ts ws rs : List ℕ) (q : Ran) : Type 0 where

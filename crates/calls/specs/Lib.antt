@@ -1,3 +1,4 @@
+pub mod SetUp
 pub mod Entry
 pub mod Run
 pub mod Read

@@ -17,12 +17,10 @@ use Rattle.pool.specs.Script.{performed}
 use Rattle.pool.specs.laws.ScriptLaws.{performed-sound, performed-alike}
 use Rattle.table.specs.declared.Form.{Form}
 use Rattle.table.specs.declared.Shape.{Shape}
-use Rattle.table.specs.Limits.{packs}
-use Rattle.table.specs.laws.Fitting.{sound-fits}
+use Rattle.table.specs.laws.Fitting.{stored-shows}
 use Rattle.table.specs.Sizes.{cellsOf, shapeOf, cleared}
 use Rattle.table.specs.laws.SizesLaws.{table-shape}
 use Rattle.table.specs.View.{holderCount, view, words, Table}
-use Rattle.table.specs.laws.WordsLaws.{view-words, words-table, telling-told}
 use Rattle.calls.specs.Entry.{badTable, badWork, shown, unsound, stored, used}
 use Rattle.pool.specs.Operations.{listOf}
 use Rattle.calls.specs.Write.{notWritten, writeList, writingIn}
@@ -50,13 +48,11 @@ pub record Stores (f : Form) (ts : List ℕ) (p : Pool) : Type 0 where
 pub stores : (f : Form) (ts : List ℕ) (p : Pool) → Table (shapeOf f ts) ts → Alike (shown f ts) p → Sound p → Stores f ts p
 stores f ts p t a h =
     let s : Shape = shapeOf f ts in
-    let eh : length (p .holders) ≡ s .holders = a .holders ∙ t .held in
-    let ec : length (p .cells) ≡ s .cells = a .cells ∙ t .measured in
-    let u : Table s (words s p) = words-table s p eh ec (t .some) (t .within) (t .holds) (t .wide) (telling-told f (s .holders) ts (t .heads)) in
-    let e : shapeOf f (words s p) ≡ s = table-shape s (words s p) u in
+    let u = stored-shows s ts p t (a .holders) (a .cells) h in
+    let e : shapeOf f (words s p) ≡ s = table-shape s (words s p) (u .table) in
     record {
-      table = subst (λ (z : Shape). Table z (words s p)) (sym e) u;
-      shows = ap (λ (z : Shape). view z (words s p)) e ∙ view-words s p eh ec (λ i l. sound-fits (packs f) p h (omega (arith, ec, t .few)) (omega (arith, eh, t .wide)) i);
+      table = subst (λ (z : Shape). Table z (words s p)) (sym e) (u .table);
+      shows = ap (λ (z : Shape). view z (words s p)) e ∙ u .is;
     }
 
 module _ (f g : Form) (ts us : List ℕ) (k : StandsFor f g ts us) where

@@ -21,9 +21,6 @@ use lines::order::parse;
 use lines::printed::put_question;
 use lines::printed::put_reply;
 use scan::limits::Record;
-use table::Cell;
-use table::Form;
-use table::Holder;
 use table::Shape;
 
 // The answer of NEW, and the number of words in use after it.
@@ -60,12 +57,8 @@ fn open_table(table: &mut [u32], used: usize, n: u32) -> Opened
     requires { ⌜ used ≤ length (now table) ⌝ }
     ensures { λ r. ⌜ Opens (take used (now (table .entry))) n r (now (table .exit)) ⌝ }
 {
-    let words = Holder::AT + Holder::MOST + Cell::WORDS * n as usize;
-    let s = Shape {
-        form: Form::Four,
-        cells: n as usize,
-        holders: Holder::MOST,
-    };
+    let s = Shape::four(n as usize);
+    let words = s.words();
     if !table::fits(s, words) {
         return Opened {
             answer: Answer::TABLE_SIZE,

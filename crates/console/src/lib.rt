@@ -14,7 +14,7 @@ use lines::gather::gather;
 use lines::printed::Reply;
 use scan::limits::Record;
 use table::Cell;
-use table::Holder;
+use table::Shape;
 
 pub mod answer;
 pub mod free;
@@ -50,9 +50,6 @@ impl State {
         }
     }
 }
-
-// The words of the largest table.
-const WORDS: usize = Holder::AT + Holder::MOST + Cell::WORDS * Cell::MOST;
 
 fn write(out: &[u8], n: usize)
     requires { ⌜ n ≤ length (now out) ⌝ }
@@ -197,7 +194,7 @@ fn run(
 pub fn session(fd: i32) {
     let mut chunk = [0u8; 65536];
     let mut line = [0u8; Line::MOST];
-    let mut table = [0u32; WORDS];
+    let mut table = [0u32; Shape::WORDS_MOST];
     let mut work = [0u32; 2 * Cell::MOST];
     let mut out = [0u8; Reply::MOST];
     let mut texts = [0u8; Record::TEXT + 1];

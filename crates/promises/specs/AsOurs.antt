@@ -89,7 +89,7 @@ module _ (form : Form) (E : Engine) (K : Keeps form E) where
 
   pub as-ours : E ≡ ours form
   as-ours = λ i. record {
-    setUp = λ ts n. record { answer = same-set-up-answer form E K ts n i; table = same-set-up-table form E K ts n i };
+    setUp = λ ts n h. record { answer = same-set-up-answer form E K ts n h i; table = same-set-up-table form E K ts n h i };
     run = λ ts ws ss rs. same-run ts ws ss rs i;
     read = λ ts ws h xs. same-read form E K ts ws h xs i;
     write = λ ts ws h out. same-write ts ws h out i;

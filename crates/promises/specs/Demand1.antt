@@ -8,12 +8,13 @@ use Prim.Native.Nat.{ℕ, suc, _*_}
 use lib.ListN.{take}
 use Rattle.answers.specs.Answers.{DONE}
 use Rattle.pool.specs.Script.{Operation}
+use Rattle.table.specs.Limits.{cellsTold}
 use Rattle.table.specs.Sizes.{cleared}
 use Rattle.calls.specs.Entry.{shown, over}
 use Rattle.calls.specs.Run.{Ran, operations}
 use Rattle.promises.specs.Engine.{Engine}
 use Rattle.promises.specs.Rows.{Row, First, Answers, None}
-use Rattle.promises.specs.Grounds.{cellsTold, setUpRows, runRows, operationRows}
+use Rattle.promises.specs.Grounds.{setUpRows, runRows, operationRows}
 use Rattle.promises.specs.TextGrounds.{readRows, writeRows, checkRows}
 use Rattle.table.specs.declared.Form.{Form}
 
@@ -35,7 +36,7 @@ pub data Stops (form : Form) (E : Engine) (ws : List ℕ) : List ℕ → List Op
 
 -- the answer of each call is that of its rows
 abbrev pub SetUpRefusals : (form : Form) → Engine → Type 0
-SetUpRefusals form E = (ts : List ℕ) (n : ℕ) → Answers (setUpRows form ts n) (E .setUp ts n .answer)
+SetUpRefusals form E = (ts : List ℕ) (n h : ℕ) → Answers (setUpRows form ts n h) (E .setUp ts n h .answer)
 
 abbrev pub RunRefusals : (form : Form) → Engine → Type 0
 RunRefusals form E = (ts ws ss rs : List ℕ) → First (runRows form ts ws ss rs) (λ n. Unit {0}) (E .run ts ws ss rs .answer)
@@ -51,7 +52,7 @@ CheckRefusals E = (xs : List ℕ) → Answers (checkRows xs) (E .check xs .no)
 
 -- after a refusal table, results and output are as they were, and each number is 0; the text is only read
 abbrev pub RefusedSetUp : Engine → Type 0
-RefusedSetUp E = (ts : List ℕ) (n : ℕ) → E .setUp ts n .answer ≢ DONE → E .setUp ts n .table ≡ ts
+RefusedSetUp E = (ts : List ℕ) (n h : ℕ) → E .setUp ts n h .answer ≢ DONE → E .setUp ts n h .table ≡ ts
 
 abbrev pub RefusedRun : (form : Form) → Engine → Type 0
 RefusedRun form E = (ts ws ss rs : List ℕ) → (None (runRows form ts ws ss rs) → ⊥) → let r = E .run ts ws ss rs in (r .table ≡ ts) × (r .results ≡ rs) × (r .count ≡ 0)

@@ -1,4 +1,4 @@
--- Demand 2: setting up leaves document 01's words; after whatever is done the holders have the lists of the report's machine, however the
+-- Demand 2: setting up leaves document 01's new pool; after whatever is done the holders have the lists of the report's machine, however the
 -- cells are shared, in the cells that document 01 names; reading and writing keep to the text form, and each undoes the other.
 use mathlib.Core.Path.{_≡_}
 use mathlib.Core.Logic.{_≢_}
@@ -9,17 +9,16 @@ use lib.ListN.{length, getD, take, drop, replicate}
 use Rattle.answers.specs.Answers.{DONE}
 use Rattle.lists.specs.Lst.{Lst, order, extent}
 use Rattle.pool.specs.Tally.{occ}
-use Rattle.pool.specs.Pool.{holder, frees, Sound}
+use Rattle.pool.specs.Pool.{Pool, kindOf, elemOf, countOf, nextOf, holder, frees, Sound}
 use Rattle.pool.specs.Script.{Operation}
-use Rattle.table.specs.Limits.{packs, head, holdersMost, holdersTold}
-use Rattle.table.specs.View.{cellWord}
+use Rattle.table.specs.Limits.{cellsTold, holdersTold}
 use Rattle.text.specs.Limits.{levels, recordBytes}
 use Rattle.text.specs.ListText.{textOf, fill, bare}
 use Rattle.text.specs.Writing.{usable}
 use Rattle.calls.specs.Entry.{shown, over}
 use Rattle.calls.specs.Run.{operations}
 use Rattle.promises.specs.Engine.{Engine}
-use Rattle.promises.specs.Grounds.{BadTable, cellsTold, UsesB}
+use Rattle.promises.specs.Grounds.{BadTable, UsesB}
 use Rattle.promises.specs.TextGrounds.{Has, TakesRecords}
 use Rattle.promises.specs.Machine.{Lists, assign, turn, says, turnAll, Says}
 use Rattle.promises.specs.Demand1.{wordsOf}
@@ -57,22 +56,27 @@ pub record Ready (form : Form) (ts ws : List ℕ) : Type 0 where
   pub work : 2 * cellsTold ts ≤ length ws
   pub sound : Sound (shown form ts)
 
--- field k of cell i + 1 of n: T, E, R, S
-abbrev pub fieldIn : (form : Form) → ℕ → ℕ → List ℕ → ℕ
-fieldIn form i k us = cellWord (packs form) (head form + holdersMost) k us i
+-- a new pool of n cells and h holders: the first free cell is 1, cell i is followed by i + 1 and the last by 0, and all
+-- else is 0
+pub record NewPool (n h : ℕ) (p : Pool) : Type 0 where
+  pub cells : length (p .cells) ≡ n
+  pub holders : length (p .holders) ≡ h
+  pub free : p .free ≡ 1
+  pub next : (i : ℕ) → 1 ≤ i → i < n → nextOf (p .cells) i ≡ i + 1
+  pub last : nextOf (p .cells) n ≡ 0
+  pub null : (k : ℕ) → k < h → holder p k ≡ 0
+  pub empty : (i : ℕ) → 1 ≤ i → i ≤ n → (kindOf (p .cells) i ≡ 0) × (elemOf (p .cells) i ≡ 0) × (countOf (p .cells) i ≡ 0)
 
--- the words of n cells set up: the first free cell is 1, cell c is followed by c + 1, the last by 0, and all other words are 0
-pub record NewWords (form : Form) (n : ℕ) (us : List ℕ) : Type 0 where
-  pub cells : getD us 0 0 ≡ n
-  pub free : getD us 1 0 ≡ 1
-  pub told : holdersTold form us ≡ holdersMost
-  pub holders : (h : ℕ) → h < holdersMost → getD us (head form + h) 0 ≡ 0
-  pub empty : (i k : ℕ) → i < n → k < 3 → fieldIn form i k us ≡ 0
-  pub next : (i : ℕ) → i + 1 < n → fieldIn form i 3 us ≡ i + 2
-  pub last : (i : ℕ) → i + 1 ≡ n → fieldIn form i 3 us ≡ 0
+-- words that tell n cells and h holders, and show such a pool
+pub record NewTable (form : Form) (n h : ℕ) (us : List ℕ) : Type 0 where
+  pub cells : cellsTold us ≡ n
+  pub holders : holdersTold form us ≡ h
+  pub pool : NewPool n h (shown form us)
 
 abbrev pub SetUpGives : (form : Form) → Engine → Type 0
-SetUpGives form E = (ts : List ℕ) (n : ℕ) → let g = E .setUp ts n in g .answer ≡ DONE → (length (g .table) ≡ length ts) × NewWords form n (g .table)
+SetUpGives form E =
+    (ts : List ℕ) (n h : ℕ) → let g = E .setUp ts n h in
+    g .answer ≡ DONE → (length (g .table) ≡ length ts) × NewTable form n h (g .table)
 
 -- an operation that is done
 abbrev pub OperationsGive : (form : Form) → Engine → Type 0

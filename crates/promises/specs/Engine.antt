@@ -5,7 +5,7 @@ use Prim.Native.Nat.{ℕ}
 use lib.ListN.{drop}
 use Rattle.answers.specs.Answers.{DONE}
 use Rattle.text.specs.Text.{Answer, verdict, restAt}
-use Rattle.setup.specs.SetUp.{Given, setUp, setUpIn}
+use Rattle.calls.specs.SetUp.{Given, setUpIn}
 use Rattle.calls.specs.Run.{Ran, ranIn}
 use Rattle.calls.specs.Read.{Read, readingIn}
 use Rattle.calls.specs.Write.{Write, writingIn}
@@ -13,8 +13,8 @@ use Rattle.table.specs.declared.Form.{Form}
 
 -- what each call gives: its answer, its number, and the lent words afterwards
 pub record Engine : Type 0 where
-  -- the table's words, the number of cells
-  pub setUp : List ℕ → ℕ → Given
+  -- the table's words, the number of cells, the number of holders
+  pub setUp : List ℕ → ℕ → ℕ → Given
   -- table, work space, script, results
   pub run : List ℕ → List ℕ → List ℕ → List ℕ → Ran
   -- table, work space, holder, text
@@ -27,11 +27,18 @@ pub record Engine : Type 0 where
   pub rest : List ℕ → List ℕ
 
 abbrev pub ours : (form : Form) → Engine
-ours form = record { setUp = setUpIn form; run = ranIn form; read = readingIn form; write = writingIn form; check = verdict; rest = λ xs. drop (restAt xs) xs }
+ours form = record {
+  setUp = setUpIn form;
+  run = ranIn form;
+  read = readingIn form;
+  write = writingIn form;
+  check = verdict;
+  rest = λ xs. drop (restAt xs) xs;
+}
 
 -- the tables that an engine's calls can make, from a set-up that is done on, whatever the arguments and the answers
 pub data Reached (E : Engine) : List ℕ → Type 0 where
-  made : (ts : List ℕ) (n : ℕ) → E .setUp ts n .answer ≡ DONE → Reached E (E .setUp ts n .table)
-  setAgain : {ts : List ℕ} (n : ℕ) → Reached E ts → Reached E (E .setUp ts n .table)
+  made : (ts : List ℕ) (n h : ℕ) → E .setUp ts n h .answer ≡ DONE → Reached E (E .setUp ts n h .table)
+  setAgain : {ts : List ℕ} (n h : ℕ) → Reached E ts → Reached E (E .setUp ts n h .table)
   ranOn : {ts : List ℕ} (ws ss rs : List ℕ) → Reached E ts → Reached E (E .run ts ws ss rs .table)
   readInto : {ts : List ℕ} (ws : List ℕ) (h : ℕ) (xs : List ℕ) → Reached E ts → Reached E (E .read ts ws h xs .table)

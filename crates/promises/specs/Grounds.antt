@@ -4,12 +4,12 @@ use mathlib.Core.Logic.{_≢_, _⊎_}
 use mathlib.Core.Bool.{false}
 use mathlib.Core.List.{List, [], _∷_, _++_}
 use Prim.Native.Nat.{ℕ, zero, suc, _*_, _/_, _%_, _≤_, _<_}
-use lib.ListN.{length, getD}
+use lib.ListN.{length}
 use Rattle.answers.specs.Answers.{TABLE-SIZE, WORK-SPACE, SCRIPT, RESULTS, UNSOUND, CODE, HOLDER, SAME, NULL, OCCUPIED, SHARED, NO-ROOM}
 use Rattle.lists.specs.Lst.{Lst, len}
 use Rattle.pool.specs.Pool.{Cell, Pool, countOf, nextOf, holder, ListAt, frees, Sound}
 use Rattle.pool.specs.Script.{PFA, PFL, DECAP, ADV, BORROW, INV, CINV, CONC, FIRST, LENGTH, Operation}
-use Rattle.table.specs.Limits.{cellsMost, holdersFit, holdersMost, holdersTold, tableWords}
+use Rattle.table.specs.Limits.{cellsMost, holdersFit, cellsTold, holdersTold, tableWords}
 use Rattle.calls.specs.Entry.{shown}
 use Rattle.calls.specs.Run.{operationsMost}
 use Rattle.promises.specs.Rows.{Row, row, OneOf}
@@ -18,10 +18,6 @@ use Rattle.table.specs.declared.Form.{Form}
 -- n cells and h holders in k words: no pool has n cells, or h holders, or one that has has not k words
 abbrev pub BadSize : (form : Form) → ℕ → ℕ → ℕ → Type 0
 BadSize form h n k = (n < 1) ⊎ (cellsMost form < n) ⊎ (holdersFit form h ≡ false) ⊎ (k ≢ tableWords form h n)
-
--- word 0 is the number of cells
-abbrev pub cellsTold : List ℕ → ℕ
-cellsTold ts = getD ts 0 0
 
 abbrev pub BadTable : (form : Form) → List ℕ → Type 0
 BadTable form ts = BadSize form (holdersTold form ts) (cellsTold ts) (length ts)
@@ -43,8 +39,8 @@ NoHolder p h = length (p .holders) ≤ h
 
 -- setting up
 
-abbrev pub setUpRows : (form : Form) → List ℕ → ℕ → List Row
-setUpRows form ts n = row TABLE-SIZE (BadSize form holdersMost n (length ts)) ∷ []
+abbrev pub setUpRows : (form : Form) → List ℕ → ℕ → ℕ → List Row
+setUpRows form ts n h = row TABLE-SIZE (BadSize form h n (length ts)) ∷ []
 
 -- a script run, before its operations
 

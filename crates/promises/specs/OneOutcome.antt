@@ -7,10 +7,10 @@ use Prim.Native.Nat.{ℕ}
 use Rattle.answers.specs.Answers.{outcome}
 use Rattle.answers.specs.declared.Outcome.{Outcome}
 use Rattle.text.specs.Text.{verdict}
-use Rattle.setup.specs.SetUp.{SetUp, setUp, setUpIn}
+use Rattle.calls.specs.SetUp.{setUpIn}
 use Rattle.calls.specs.Run.{ranIn}
 use Rattle.calls.specs.Read.{readingIn}
-use Rattle.calls.specs.Contracts.{Runs, Reads, wrote}
+use Rattle.calls.specs.Contracts.{SetsUp, Runs, Reads, wrote}
 use Rattle.calls.specs.Write.{Write, writingIn}
 use Rattle.promises.specs.Engine.{Engine}
 use Rattle.promises.specs.Rows.{Row, Answers}
@@ -21,8 +21,8 @@ use Rattle.promises.specs.kept.Demand1Kept.{demand1}
 use Rattle.table.specs.declared.Form.{Form}
 
 -- setting up, by the contract of the code
-pub one-set-up : (form : Form) → (ts : List ℕ) (n : ℕ) {r s : ℕ} {us vs : List ℕ} → SetUp (setUpIn form ts n) r us → SetUp (setUpIn form ts n) s vs → (r ≡ s) × (us ≡ vs)
-one-set-up form ts n a b = (a .answer ∙ sym (b .answer), a .table ∙ sym (b .table))
+pub one-set-up : (form : Form) → (ts : List ℕ) (n h : ℕ) {r s : ℕ} {us vs : List ℕ} → SetsUp r us (setUpIn form ts n h) → SetsUp s vs (setUpIn form ts n h) → (r ≡ s) × (us ≡ vs)
+one-set-up form ts n h a b = (a .answer ∙ sym (b .answer), a .table ∙ sym (b .table))
 
 -- a script run
 pub one-run : (form : Form) → (ts ws ss rs : List ℕ) {r s : Outcome} {us vs qs us′ vs′ qs′ : List ℕ} → Runs r us vs qs (ranIn form ts ws ss rs) → Runs s us′ vs′ qs′ (ranIn form ts ws ss rs)
@@ -56,14 +56,14 @@ one-answer (r ∷ rs) n m (inr a) (inr b) = one-answer rs n m (a .1) (b .1)
 
 -- so every engine that keeps demand 1 answers as ours does
 pub record AnswersAsOurs (form : Form) (E : Engine) : Type 0 where
-  pub set-up : (ts : List ℕ) (n : ℕ) → E .setUp ts n .answer ≡ setUpIn form ts n .answer
+  pub set-up : (ts : List ℕ) (n h : ℕ) → E .setUp ts n h .answer ≡ setUpIn form ts n h .answer
   pub read : (ts ws : List ℕ) (h : ℕ) (xs : List ℕ) → E .read ts ws h xs .answer ≡ readingIn form ts ws h xs .answer
   pub write : (ts ws : List ℕ) (h : ℕ) (out : List ℕ) → E .write ts ws h out .answer ≡ writingIn form ts ws h out .answer
   pub check : (xs : List ℕ) → E .check xs .no ≡ verdict xs .no
 
 pub answers-as-ours : (form : Form) → (E : Engine) → Demand1 form E → AnswersAsOurs form E
 answers-as-ours form E d = record {
-  set-up = λ ts n. one-answer (setUpRows form ts n) _ _ (d .set-up-refusals ts n) (demand1 form .set-up-refusals ts n);
+  set-up = λ ts n h. one-answer (setUpRows form ts n h) _ _ (d .set-up-refusals ts n h) (demand1 form .set-up-refusals ts n h);
   read = λ ts ws h xs. one-answer (readRows form ts ws h xs) _ _ (d .read-refusals ts ws h xs) (demand1 form .read-refusals ts ws h xs);
   write = λ ts ws h out. one-answer (writeRows form ts ws h out) _ _ (d .write-refusals ts ws h out) (demand1 form .write-refusals ts ws h out);
   check = λ xs. one-answer (checkRows xs) _ _ (d .check-refusals xs) (demand1 form .check-refusals xs);

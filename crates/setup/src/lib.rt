@@ -1,14 +1,11 @@
 // The call that sets up a pool: every cell free, each followed by the next.
 ghost use mathlib.Core.Path.{_≡_};
-ghost use Prim.Native.Nat.{_≤_, _<_};
-ghost use lib.ListN.{length, set};
 ghost use Rattle.pool.specs.Operations.{laid};
 ghost use Rattle.pool.specs.Setters.{celled};
-ghost use Rattle.table.specs.View.{shape, view, Table, Shows};
-ghost use Rattle.setup.specs.SetUp.{SetUp, setUp, setUpIn};
-ghost use Rattle.table.specs.declared.Form.the-variants.{Four};
+ghost use Rattle.table.specs.View.{view, Table, Shows};
+ghost use Rattle.calls.specs.SetUp.{setUp, setUpIn};
+ghost use Rattle.calls.specs.Contracts.{SetsUp};
 ghost use Rattle.setup.specs.laws.Linked.{linked};
-ghost use Rattle.setup.specs.laws.SetUpLaws.{toldIn};
 use answers::Answer;
 use table::Form;
 use table::Holder;
@@ -28,19 +25,9 @@ fn link(s: Shape, t: &mut [u32])
     }
 }
 
-// The number of holders, where the form tells it.
-fn tell(f: Form, t: &mut [u32], h: u32)
-    requires { ⌜ 2 < length (now t) ⌝ }
-    ensures { λ r. ⌜ now (t .exit) ≡ toldIn f h (now (t .entry)) ⌝ }
-{
-    if f.head() > 2 {
-        t[2] = h;
-    }
-}
-
 // A pool of n cells and h holders, if the words are as many as that asks.
 pub fn set_up_form(f: Form, t: &mut [u32], n: u32, h: u32) -> u32
-    ensures { λ r. ⌜ SetUp (setUp (shape f h n) (now (t .entry))) r (now (t .exit)) ⌝ }
+    ensures { λ r. ⌜ SetsUp r (now (t .exit)) (setUpIn f (now (t .entry)) n h) ⌝ }
 {
     let s = Shape {
         form: f,
@@ -50,9 +37,7 @@ pub fn set_up_form(f: Form, t: &mut [u32], n: u32, h: u32) -> u32
     if !table::fits(s, t.len()) {
         return Answer::TABLE_SIZE;
     }
-    table::clear(t, t.len());
-    t[0] = n;
-    tell(f, t, h);
+    table::lay_out(s, t);
     table::set_free(s, t, 1);
     link(s, t);
     Answer::DONE
@@ -60,7 +45,7 @@ pub fn set_up_form(f: Form, t: &mut [u32], n: u32, h: u32) -> u32
 
 // On a table with four words a cell.
 pub fn set_up(t: &mut [u32], n: u32) -> u32
-    ensures { λ r. ⌜ SetUp (setUpIn Four (now (t .entry)) n) r (now (t .exit)) ⌝ }
+    ensures { λ r. ⌜ SetsUp r (now (t .exit)) (setUp (now (t .entry)) n) ⌝ }
 {
     set_up_form(Form::Four, t, n, Holder::MOST as u32)
 }

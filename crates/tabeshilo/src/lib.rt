@@ -1,18 +1,18 @@
 // The C boundary: the calls that C links, each one line over the crate that does it. The header is include/tabeshilo.h.
 ghost use mathlib.Core.Path.{_≡_};
 ghost use Rattle.answers.specs.Answers.{outcome};
-ghost use Rattle.calls.specs.Contracts.{Runs, Reads, wrote};
+ghost use Rattle.calls.specs.Contracts.{SetsUp, Runs, Reads, wrote};
 ghost use Rattle.calls.specs.Run.{ran};
 ghost use Rattle.calls.specs.Read.{readIn};
 ghost use Rattle.calls.specs.Write.{writeOut};
-ghost use Rattle.setup.specs.SetUp.{SetUp, setUpIn};
+ghost use Rattle.calls.specs.SetUp.{setUp};
 ghost use Rattle.table.specs.declared.Form.the-variants.{Four};
 ghost use Rattle.text.specs.Text.{verdict};
 use answers::Outcome;
 
 #[no_mangle]
 pub extern "C" fn tab_set_up(table: &mut [u32], cells: u32) -> u32
-    ensures { λ r. ⌜ SetUp (setUpIn Four (now (table .entry)) cells) r (now (table .exit)) ⌝ }
+    ensures { λ r. ⌜ SetsUp r (now (table .exit)) (setUp (now (table .entry)) cells) ⌝ }
 {
     setup::set_up(table, cells)
 }

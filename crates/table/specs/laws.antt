@@ -1,4 +1,10 @@
+pub mod TabLaws
+pub mod PackLaws
+pub mod PutLaws
 pub mod ViewLaws
-pub mod WordsLaws
+pub mod FixedLaws
 pub mod SizesLaws
+pub mod WordsLaws
 pub mod Fitting
+pub mod BlankLaws
+pub mod Computes

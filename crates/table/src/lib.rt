@@ -5,11 +5,15 @@ ghost use Prim.Native.Nat.{_+_, _*_, _^_, _≤_, _<_};
 ghost use Rattle.pool.specs.Pool.{at, kindOf, elemOf, countOf, nextOf, holder};
 ghost use Rattle.table.specs.Fields.{field, putField};
 ghost use Rattle.pool.specs.Setters.{cell, putCell, putCount, putNext, putFree, putHolder};
-ghost use lib.ListN.{length, set, getD};
-ghost use Rattle.table.specs.Limits.{packs, head, cellsMost, holdersFit, holdersTold, cellsIn};
+ghost use lib.ListN.{length, set};
+ghost use Rattle.table.specs.Limits.{packs, head, cellsMost, holdersFit, holdersMost, holdersTold, cellsIn};
+ghost use Rattle.table.specs.Limits.{tableWords};
+ghost use Rattle.table.specs.declared.Form.the-variants.{Four};
 ghost use Rattle.table.specs.Pack.{part, room, withPart};
 ghost use Rattle.table.specs.Sizes.{sizesFit, shapeOf, cleared};
-ghost use Rattle.table.specs.View.{holderCount, greatestCount, start, cellWord, storedTwo, view, Table, IsCell, Shows};
+ghost use Rattle.table.specs.Blank.{headed, blankPool};
+ghost use Rattle.table.specs.View.{shape, holderCount, greatestCount, start, cellWord, storedTwo, view};
+ghost use Rattle.table.specs.View.{Table, IsCell, Shows};
 
 pub struct Cell(pub usize);
 
@@ -42,7 +46,8 @@ impl Holder {
     pub const MANY: usize = 256;
 }
 
-// How a pool is laid out in words: four words a cell, two words a cell, and two words a cell with the number of holders told.
+// How a pool is laid out in words: four words a cell, two words a cell, and two words a cell with the number of holders
+// told. No call names Packed or Wide yet: they are for later requests.
 pub enum Form {
     Four,
     Packed,
@@ -100,8 +105,8 @@ impl Form {
 
     // The words of n cells.
     pub fn words(self, n: usize) -> usize
-        requires { ⌜ n ≤ 8000 ⌝ }
-        ensures { λ r. ⌜ (r ≡ cellsIn (packs self) n) × (r ≤ 32000) ⌝ }
+        requires { ⌜ n < 2 ^ 32 ⌝ }
+        ensures { λ r. ⌜ (r ≡ cellsIn (packs self) n) × (r ≤ 4 * n) ⌝ }
     {
         if self.packs() {
             Pair::WORDS * n
@@ -119,6 +124,20 @@ pub struct Shape {
 }
 
 impl Shape {
+    // The words of the largest table with four words a cell.
+    pub const WORDS_MOST: usize = Cell::AT + Cell::WORDS * Cell::MOST;
+
+    // n cells of four words each.
+    pub fn four(n: usize) -> Shape
+        ensures { λ r. ⌜ r ≡ shape Four holdersMost n ⌝ }
+    {
+        Shape {
+            form: Form::Four,
+            cells: n,
+            holders: Holder::MOST,
+        }
+    }
+
     pub fn holders(self) -> usize
         ensures { λ r. ⌜ r ≡ holderCount self ⌝ }
     {
@@ -128,10 +147,19 @@ impl Shape {
     // Where the words of the cells begin.
     pub fn start(self) -> usize
         requires { ⌜ self .holders ≤ 256 ⌝ }
-        ensures { λ r. ⌜ r ≡ start self ⌝ }
+        ensures { λ r. ⌜ (r ≡ start self) × (r ≤ 259) ⌝ }
     {
         let f = self.form;
         f.head() + self.holders
+    }
+
+    // The words of a whole table.
+    pub fn words(self) -> usize
+        requires { ⌜ (self .cells < 2 ^ 32) × (self .holders ≤ 256) ⌝ }
+        ensures { λ r. ⌜ r ≡ tableWords (self .form) (self .holders) (self .cells) ⌝ }
+    {
+        let f = self.form;
+        self.start() + f.words(self.cells)
     }
 }
 
@@ -149,7 +177,7 @@ pub fn fits(s: Shape, words: usize) -> bool
     if !f.takes(s.holders) {
         return false;
     }
-    words == s.start() + f.words(s.cells)
+    words == s.words()
 }
 
 // The holders that a table of a form tells.
@@ -206,6 +234,27 @@ pub fn clear(w: &mut [u32], n: usize)
         w[i] = 0;
         i += 1;
     }
+}
+
+// The number of cells, and that of holders where the form tells it.
+fn tell_head(s: Shape, t: &mut [u32])
+    requires { ⌜ (s .cells < 2 ^ 32) × (s .holders < 2 ^ 32) × (2 < length (now t)) ⌝ }
+    ensures { λ r. ⌜ now (t .exit) ≡ headed (s .form) (s .holders) (s .cells) (now (t .entry)) ⌝ }
+{
+    t[0] = s.cells as u32;
+    let f = s.form;
+    if f.head() > Holder::AT {
+        t[2] = s.holders as u32;
+    }
+}
+
+// All words 0 but those that tell the shape.
+pub fn lay_out(s: Shape, t: &mut [u32])
+    requires { ⌜ sizesFit s (length (now t)) ≡ true ⌝ }
+    ensures { λ r. ⌜ Shows s (now (t .exit)) (blankPool (s .cells) (s .holders)) ⌝ }
+{
+    clear(t, t.len());
+    tell_head(s, t);
 }
 
 // Field k of the two words of a cell.

@@ -1,5 +1,5 @@
 -- Counting the free cells one by one.
-use mathlib.Core.Path.{_≡_, refl, sym, ap, _∙_}
+use mathlib.Core.Path.{_≡_, sym, ap, _∙_}
 use mathlib.Core.List.{List}
 use Prim.Native.Nat.{ℕ, suc, _+_, _≤_, _<_}
 use native.Mathlib.Omega.{arith}
@@ -8,9 +8,10 @@ use lib.ListN.{length, drop, drop-of-length-le}
 use lib.Seq.{drop-cons}
 use Rattle.pool.specs.Pool.{Cell, blank, countOf, frees}
 use Rattle.pool.specs.Tally.{same, tally}
-use Rattle.table.specs.Sizes.{cellsOf, shapeOf}
-use Rattle.table.specs.Tab.{tab}
+use Rattle.pool.specs.laws.Room.{frees-lives}
+use Rattle.table.specs.Sizes.{shapeOf}
 use Rattle.table.specs.View.{view}
+use Rattle.table.specs.laws.ViewLaws.{view-cells}
 use Rattle.console.specs.Session.{freeCells}
 use Rattle.table.specs.declared.Form.the-variants.{Four}
 use Rattle.table.specs.declared.Shape.{Shape}
@@ -36,8 +37,11 @@ unfolding frees tally
 counts-all cs c n i l = let q : frees (drop c cs) ≡ 0 = ap frees (drop-of-length-le cs l) in omega (arith, i .total)
 
 pub none-free : (ts : List ℕ) (s : Shape) → s ≡ shapeOf Four ts → s .cells ≡ 0 → 0 ≡ freeCells ts
-unfolding freeCells view tab frees tally
-none-free ts s e z = let q : cellsOf Four ts ≡ 0 = sym (ap (λ (x : Shape). x .cells) e) ∙ z in rw q refl
+unfolding freeCells
+none-free ts s e z =
+    let q : length (view s ts .cells) ≡ 0 = view-cells s ts ∙ z in
+    let r : frees (view s ts .cells) ≡ 0 = omega (arith, frees-lives (view s ts .cells)) in
+    sym r ∙ ap (λ (x : Shape). frees (view x ts .cells)) e
 
 pub some-free : (ts : List ℕ) (s : Shape) → s ≡ shapeOf Four ts → frees (view s ts .cells) ≡ freeCells ts
 unfolding freeCells

@@ -8,12 +8,13 @@ use lib.Dec.{ltb}
 use lib.ListN.{length, getD, take, drop, replicate, length-append, length-replicate}
 use lib.Seq.{sets-eq, length-sets, take-at}
 use Rattle.answers.specs.Answers.{DONE, TABLE-SIZE, WORK-SPACE, SCRIPT, RESULTS, UNSOUND}
-use Rattle.pool.specs.Operations.{fresh}
 use Rattle.pool.specs.Script.{performed}
 use Rattle.table.specs.Limits.{holdersMost, tableWords}
 use Rattle.table.specs.Sizes.{sizesFit, cellsOf}
-use Rattle.table.specs.View.{shape, words}
-use Rattle.setup.specs.SetUp.{Given, SetUp, setUp, setUpIn}
+use Rattle.table.specs.View.{shape}
+use Rattle.setup.specs.laws.SetUpLaws.{accepted, refused}
+use Rattle.calls.specs.SetUp.{Given, setUp}
+use Rattle.calls.specs.Contracts.{SetsUp}
 use Rattle.calls.specs.Entry.{badTable, shown, unsound, used as clearedWork}
 use Rattle.calls.specs.Run.{Ran, ran, ranIn, ranTo, notRun, badScript, badResults, operations}
 use Rattle.lines.specs.Commands.{Command, new, operation, command}
@@ -52,33 +53,25 @@ reply-short a k v f =
     )
 
 -- words of the right length are set up whatever they hold
-set-up-done : (ts : List ℕ) (n : ℕ) → sizesFit (shape Four holdersMost n) (length ts) ≡ true → setUpIn Four ts n ≡ record { answer = DONE; table = words (shape Four holdersMost n) (fresh n holdersMost) }
-unfolding setUp
-set-up-done ts n e = rw e refl
-
-set-up-refused : (ts : List ℕ) (n : ℕ) → sizesFit (shape Four holdersMost n) (length ts) ≡ false → setUpIn Four ts n ≡ record { answer = TABLE-SIZE; table = ts }
-unfolding setUp
-set-up-refused ts n e = rw e refl
-
 lent : (n : ℕ) → length {A = ℕ} (replicate (tableWords Four holdersMost n) 0) ≡ tableWords Four holdersMost n
 lent n = length-replicate (tableWords Four holdersMost n) 0
 
 -- NEW sets up the front of the lent words
-pub opens : (old ts front rest : List ℕ) (n : ℕ) {r : ℕ} → sizesFit (shape Four holdersMost n) (tableWords Four holdersMost n) ≡ true → length ts ≡ tableWords Four holdersMost n → length front ≡ tableWords Four holdersMost n → SetUp (setUpIn Four ts n) r front
-    → Opens old n (record { answer = r; used = tableWords Four holdersMost n }) (front ++ rest)
-opens old ts front rest n e l m s =
-    let p = set-up-done ts n (ap (sizesFit (shape Four holdersMost n)) l ∙ e) in
-    let q = set-up-done (replicate (tableWords Four holdersMost n) 0) n (ap (sizesFit (shape Four holdersMost n)) (lent n) ∙ e) in
+pub opens : (old ts front rest : List ℕ) (n w : ℕ) {r : ℕ} → w ≡ tableWords Four holdersMost n → sizesFit (shape Four holdersMost n) w ≡ true → length ts ≡ w → length front ≡ w → SetsUp r front (setUp ts n)
+    → Opens old n (record { answer = r; used = w }) (front ++ rest)
+opens old ts front rest n w z e l m s =
+    let p = accepted Four ts n holdersMost (ap (sizesFit (shape Four holdersMost n)) l ∙ e) in
+    let q = accepted Four (replicate (tableWords Four holdersMost n) 0) n holdersMost (ap (sizesFit (shape Four holdersMost n)) (lent n ∙ sym z) ∙ e) in
     record {
       answer = s .answer ∙ ap (λ (g : Given). g .answer) (p ∙ sym q);
-      words = take-at front rest (tableWords Four holdersMost n) m ∙ s .table ∙ ap (λ (g : Given). g .table) p ∙ sym (ap (newWords old) q);
+      words = take-at front rest w m ∙ s .table ∙ ap (λ (g : Given). g .table) p ∙ sym (ap (newWords old) q);
       fits = omega (arith, length-append front rest);
     }
 
 -- or keeps the old ones
-pub keeps-old : (ts : List ℕ) (used n : ℕ) → sizesFit (shape Four holdersMost n) (tableWords Four holdersMost n) ≡ false → used ≤ length ts → Opens (take used ts) n (record { answer = TABLE-SIZE; used = used }) ts
-keeps-old ts used n e l =
-    let q = set-up-refused (replicate (tableWords Four holdersMost n) 0) n (ap (sizesFit (shape Four holdersMost n)) (lent n) ∙ e) in
+pub keeps-old : (ts : List ℕ) (used n w : ℕ) → w ≡ tableWords Four holdersMost n → sizesFit (shape Four holdersMost n) w ≡ false → used ≤ length ts → Opens (take used ts) n (record { answer = TABLE-SIZE; used = used }) ts
+keeps-old ts used n w z e l =
+    let q = refused Four (replicate (tableWords Four holdersMost n) 0) n holdersMost (ap (sizesFit (shape Four holdersMost n)) (lent n ∙ sym z) ∙ e) in
     record { answer = sym (ap (λ (g : Given). g .answer) q); words = sym (ap (newWords (take used ts)) q); fits = l }
 
 -- the work space's words do not matter to what a run gives

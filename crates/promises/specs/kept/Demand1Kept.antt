@@ -22,12 +22,11 @@ use Rattle.text.specs.Marks.{listIn}
 use Rattle.text.specs.Text.{Answer, verdict, scanned}
 use Rattle.text.specs.ListText.{textOf}
 use Rattle.text.specs.Writing.{usable}
-use Rattle.setup.specs.SetUp.{Given}
+use Rattle.calls.specs.SetUp.{Given}
 use Rattle.calls.specs.Entry.{badTable, badWork, noHolder, shown, unsound, stored, used, over}
 use Rattle.calls.specs.Run.{Ran, operations, badScript, badResults, notRun, ranTo, ranIn}
 use Rattle.calls.specs.Read.{Read as Reading, badText, notRead, readingIn}
 use Rattle.calls.specs.Write.{Write, notWritten, writeList, writingIn}
-use Rattle.table.specs.Limits.{holdersMost}
 use Rattle.promises.specs.Engine.{ours}
 use Rattle.promises.specs.Rows.{First, Answers}
 use Rattle.promises.specs.Grounds.{setUpRows, runRows, operationRows}
@@ -43,14 +42,14 @@ use Rattle.promises.specs.laws.RunLaws.{Passed, passed-good, passes, pas
 use Rattle.promises.specs.laws.ScriptDoes.{one-done}
 use Rattle.promises.specs.laws.ReadLaws.{filledIn, read-ways}
 use Rattle.promises.specs.laws.WriteLaws.{listOf-is, write-ways, judgement}
-use Rattle.promises.specs.laws.Invariant.{set-up-ways}
+use Rattle.setup.specs.laws.SetUpLaws.{set-up-ways}
 use Rattle.promises.specs.kept.WorkDoes.{run-work, read-work, write-work}
 use Rattle.table.specs.declared.Form.{Form}
 
 set-up-rows : (form : Form) → SetUpRefusals form (ours form)
-set-up-rows form ts n = set-up-ways form ts n (λ (g : Given). Answers (setUpRows form ts n) (g .answer))
-    (λ e. inr (tells-size form holdersMost n (length ts) .1 (ap not e), refl))
-    (λ e. inl (tells-size form holdersMost n (length ts) .0 (ap not e), refl))
+set-up-rows form ts n h = set-up-ways form ts n h (λ (g : Given). Answers (setUpRows form ts n h) (g .answer))
+    (λ e. inr (tells-size form h n (length ts) .1 (ap not e), refl))
+    (λ e. inl (tells-size form h n (length ts) .0 (ap not e), refl))
 
 abbrev of-run : Ran → ℕ
 of-run r = r .answer
@@ -205,7 +204,7 @@ demand1 form = record {
   read-refusals = read-rows form;
   write-refusals = write-rows form;
   check-refusals = check-answers;
-  refused-set-up = λ ts n. set-up-ways form ts n (λ (g : Given). g .answer ≢ DONE → g .table ≡ ts) (λ e m. absurd (m refl)) (λ e m. refl);
+  refused-set-up = λ ts n h. set-up-ways form ts n h (λ (g : Given). g .answer ≢ DONE → g .table ≡ ts) (λ e m. absurd (m refl)) (λ e m. refl);
   refused-run = run-refused form;
   refused-read = λ ts ws h xs. read-ways form ts ws h xs (λ (r : Reading). r .answer ≢ DONE → (r .table ≡ ts) × (r .count ≡ 0)) (λ n us m _. (refl, refl)) (λ t m. absurd (m refl));
   refused-write = λ ts ws h out. write-ways form ts ws h out (λ (r : Write). r .answer ≢ DONE → (r .output ≡ out) × (r .count ≡ 0)) (λ n us m _. (refl, refl)) (λ o l e j m. absurd (m refl));

@@ -27,7 +27,7 @@ use Rattle.calls.specs.Run.{Ran, operations, ranIn}
 use Rattle.calls.specs.Read.{Read as Reading, badText, readingIn}
 use Rattle.calls.specs.Write.{Write, writeList, writingIn}
 use Rattle.promises.specs.Engine.{ours}
-use Rattle.promises.specs.Grounds.{cellsTold}
+use Rattle.table.specs.Limits.{cellsTold}
 use Rattle.promises.specs.TextGrounds.{Has, TakesRecords}
 use Rattle.promises.specs.Machine.{Lists, assign, turn, turnAll, Says}
 use Rattle.promises.specs.Demand1.{wordsOf}
@@ -141,7 +141,7 @@ back-again form ts ws out us vs h k l b t lh w d f u lk z room =
     let g = ready-good form t in
     let j = writes (usable (length out)) l d f in
     let e = writes-list form ts ws h out l (record { table = good-table form ts g; work = ready-work form ts ws g (t .work); held = below form ts h lh; sound = good-sound form ts g }) w j in
-    let (_, right, same) = written-read (length out) l (word-atoms form ts h l (g .table) b w) j in
+    let (_, right, same) = written-read (length out) l (word-atoms form ts h l b w) j in
     let xs = written l in
     let (size, some) = right-size xs (length xs) right in
     let i = ready-good form u in

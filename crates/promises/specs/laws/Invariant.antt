@@ -1,25 +1,22 @@
 -- Every table that our calls can make is a table of its shape, and sound. By induction on the calls.
 use mathlib.Core.Path.{_≡_, refl, _∙_, subst}
 use mathlib.Core.Logic.{_≢_}
-use mathlib.Core.Bool.{Bool, true, false, cond}
 use mathlib.Core.List.{List}
 use Prim.Native.Nat.{ℕ}
 use native.Mathlib.Omega.{arith}
 use lib.ListN.{length, length-set}
-use Rattle.answers.specs.Answers.{DONE, TABLE-SIZE}
+use Rattle.answers.specs.Answers.{DONE}
 use Rattle.lists.specs.Lst.{Lst, nil, atom, list}
 use Rattle.pool.specs.Pool.{Cell, Pool, nextOf}
 use Rattle.pool.specs.laws.Edit.{put-length}
-use Rattle.pool.specs.Operations.{fresh, load, read}
+use Rattle.pool.specs.Operations.{load, read}
 use Rattle.pool.specs.Script.{performed}
 use Rattle.pool.specs.laws.Lengths.{Alike}
 use Rattle.pool.specs.laws.ScriptLaws.{performed-sound, performed-alike}
-use Rattle.table.specs.Limits.{holdersMost}
-use Rattle.table.specs.View.{shape, words}
-use Rattle.table.specs.Sizes.{sizesFit}
+use Rattle.table.specs.View.{shape}
 use Rattle.text.specs.Marks.{listIn}
-use Rattle.setup.specs.SetUp.{Given, setUp, setUpIn}
-use Rattle.setup.specs.laws.SetUpLaws.{set-up-new}
+use Rattle.calls.specs.SetUp.{Given, setUpIn}
+use Rattle.setup.specs.laws.SetUpLaws.{accepted, set-up-ways, set-up-new}
 use Rattle.calls.specs.Entry.{shown}
 use Rattle.calls.specs.Run.{Ran, operations, ranIn}
 use Rattle.calls.specs.Read.{Read as Reading, readingIn}
@@ -47,24 +44,10 @@ read-alike p h l = record { holders = length-set (p .holders) h (load l (p .free
 
 -- setting up
 
-pub set-up-ways : (form : Form) → (ts : List ℕ) (n : ℕ) (P : Given → Type 0) → (sizesFit (shape form holdersMost n) (length ts) ≡ true → P (record { answer = DONE; table = words (shape form holdersMost n) (fresh n holdersMost) }))
-    → (sizesFit (shape form holdersMost n) (length ts) ≡ false → P (record { answer = TABLE-SIZE; table = ts })) → P (setUpIn form ts n)
-unfolding setUp
-set-up-ways form ts n P f g = go (sizesFit (shape form holdersMost n) (length ts)) refl
-  where
-    go : (b : Bool) → sizesFit (shape form holdersMost n) (length ts) ≡ b → P (cond b (record { answer = DONE; table = words (shape form holdersMost n) (fresh n holdersMost) }) (record { answer = TABLE-SIZE; table = ts }))
-    go true e = f e
-    go false e = g e
-
-new-good : (form : Form) → (ts : List ℕ) (n : ℕ) → sizesFit (shape form holdersMost n) (length ts) ≡ true → Good form (words (shape form holdersMost n) (fresh n holdersMost))
-unfolding setUp
-new-good form ts n e =
-    let w = set-up-new (shape form holdersMost n) ts e in
-    let q : setUpIn form ts n ≡ record { answer = DONE; table = words (shape form holdersMost n) (fresh n holdersMost) } = rw e in
-    subst (λ (g : Given). Good form (g .table)) q (shape-good form (shape form holdersMost n) (setUpIn form ts n .table) refl (w .table) (w .sound))
-
-set-up-good : (form : Form) → (ts : List ℕ) (n : ℕ) → (setUpIn form ts n .answer ≢ DONE → Good form ts) → Good form (setUpIn form ts n .table)
-set-up-good form ts n = set-up-ways form ts n (λ (g : Given). (g .answer ≢ DONE → Good form ts) → Good form (g .table)) (λ e h. new-good form ts n e) (λ e h. h (λ z. omega arith))
+set-up-good : (form : Form) → (ts : List ℕ) (n h : ℕ) → (setUpIn form ts n h .answer ≢ DONE → Good form ts) → Good form (setUpIn form ts n h .table)
+set-up-good form ts n h = set-up-ways form ts n h (λ (g : Given). (g .answer ≢ DONE → Good form ts) → Good form (g .table))
+    (λ e _. let w = set-up-new form ts n h e in subst (λ (g : Given). Good form (g .table)) (accepted form ts n h e) (shape-good form (shape form h n) _ refl (w .table) (w .sound)))
+    (λ e g. g (λ z. omega arith))
 
 -- what was stored after a script, and after a reading
 
@@ -83,7 +66,7 @@ read-good form ts ws h xs g = read-ways form ts ws h xs (λ (r : Reading). Good 
     (λ t. stored-good form ts (read (shown form ts) h (listIn xs)) (read-stored form t) (read-pool form ts ws h xs t .sound))
 
 pub reached-good : (form : Form) → {ts : List ℕ} → Reached (ours form) ts → Good form ts
-reached-good form (made ts n e) = set-up-good form ts n (λ m. absurd (m e))
-reached-good form (setAgain {ts = ts} n r) = set-up-good form ts n (λ m. reached-good form r)
+reached-good form (made ts n h e) = set-up-good form ts n h (λ m. absurd (m e))
+reached-good form (setAgain {ts = ts} n h r) = set-up-good form ts n h (λ m. reached-good form r)
 reached-good form (ranOn {ts = ts} ws ss rs r) = ran-good form ts ws ss rs (reached-good form r)
 reached-good form (readInto {ts = ts} ws h xs r) = read-good form ts ws h xs (reached-good form r)

@@ -4,19 +4,17 @@ use mathlib.Core.Bool.{Bool, true, false, not}
 use mathlib.Core.List.{List}
 use Prim.Native.Nat.{ℕ}
 use native.Mathlib.Omega.{arith}
-use lib.ListN.{length}
 use borrow.Author.Tests.{eqb-false, ne-eqb, not-false}
 use Rattle.pool.specs.Pool.{Pool, Sound}
 use Rattle.pool.specs.laws.CheckLaws.{check-decides}
 use Rattle.pool.specs.laws.Lengths.{Alike}
 use Rattle.table.specs.declared.Shape.{Shape}
-use Rattle.table.specs.Limits.{packs}
-use Rattle.table.specs.laws.Fitting.{sound-fits}
+use Rattle.table.specs.laws.Fitting.{stored-shows}
 use Rattle.table.specs.Sizes as table
 use Rattle.table.specs.View.{view, words, Table}
 use Rattle.table.specs.Sizes.{cellsOf, shapeOf}
 use Rattle.table.specs.laws.SizesLaws.{cells-table, table-shape}
-use Rattle.table.specs.laws.WordsLaws.{view-words, words-table, words-view, telling-told}
+use Rattle.table.specs.laws.WordsLaws.{words-view}
 use Rattle.calls.specs.Entry.{badTable, shown, unsound, stored}
 use Rattle.promises.specs.laws.Tells.{Tells}
 use Rattle.table.specs.declared.Form.{Form}
@@ -53,14 +51,12 @@ pub record Stored (form : Form) (ts : List ℕ) (q : Pool) : Type 0 where
 pub stores : (form : Form) → (ts : List ℕ) (q : Pool) → Table (shapeOf form ts) ts → Alike (shown form ts) q → Sound q → Stored form ts q
 stores form ts q t a h =
     let s = shapeOf form ts in
-    let eh : length (q .holders) ≡ s .holders = a .holders ∙ t .held in
-    let ec : length (q .cells) ≡ s .cells = a .cells ∙ t .measured in
-    let u : Table s (words s q) = words-table s q eh ec (t .some) (t .within) (t .holds) (t .wide) (telling-told form (s .holders) ts (t .heads)) in
-    let (e, w) = shape-shown form s (words s q) refl u in
+    let u = stored-shows s ts q t (a .holders) (a .cells) h in
+    let (e, w) = shape-shown form s (words s q) refl (u .table) in
     record {
       cells = ap (λ (z : Shape). z .cells) e;
-      shows = w ∙ view-words s q eh ec (λ i l. sound-fits (packs form) q h (omega (arith, ec, t .few)) (omega (arith, eh, t .wide)) i);
-      table = subst (λ (z : Shape). Table z (words s q)) (sym e) u;
+      shows = w ∙ u .is;
+      table = subst (λ (z : Shape). Table z (words s q)) (sym e) (u .table);
       again = λ r. ap (λ (z : Shape). words z r) e;
     }
 

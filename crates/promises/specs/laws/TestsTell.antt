@@ -3,10 +3,10 @@ use mathlib.Core.Path.{_≡_, refl, sym, ap, _∙_, subst}
 use mathlib.Core.Logic.{_≢_, _⊎_, inl, inr}
 use mathlib.Core.Bool.{Bool, true, false, cond, not, _&&_, _||_, true≢false, false≢true}
 use mathlib.Core.List.{List}
-use Prim.Native.Nat.{ℕ, zero, suc, _+_, _*_, _/_, _%_, _≤_, _<_}
+use Prim.Native.Nat.{ℕ, zero, suc, _*_, _/_, _%_, _≤_, _<_}
 use native.Mathlib.Omega.{arith}
 use lib.Dec.{eqb, leb, ltb}
-use lib.ListN.{length, getD}
+use lib.ListN.{length}
 use borrow.Author.Tests.{ltb-true, leb-false, eqb-true, eqb-false, eq-eqb}
 use Rattle.lists.specs.Lst.{Lst, nil, atom, list}
 use Rattle.pool.specs.Pool.{Cell, Pool, countOf, nextOf, holder, ListAt, frees, Sound}
@@ -17,16 +17,16 @@ use Rattle.pool.specs.laws.SoundLaws.{denoted}
 use Rattle.pool.specs.laws.Inverse.{Alone}
 use Rattle.pool.specs.laws.Level.{length-is, alone}
 use Rattle.pool.specs.Script.{PFA, DECAP, INV, CINV, CONC, LENGTH, Operation, among, usesB, badCode, badHolder, sameHolder, nullList, occupied, sharedCells, needed, noRoom}
-use Rattle.table.specs.Limits.{head, cellsMost, holdersFit, holdersTold, tableWords}
-use Rattle.table.specs.Tab.{length-tab}
-use Rattle.table.specs.View.{shape, view}
-use Rattle.table.specs.Sizes.{sizesFit, cellsOf}
+use Rattle.table.specs.Limits.{cellsMost, holdersFit, cellsTold, holdersTold, tableWords}
+use Rattle.table.specs.laws.ViewLaws.{view-holders}
+use Rattle.table.specs.View.{shape}
+use Rattle.table.specs.Sizes.{sizesFit, cellsOf, shapeOf}
 use Rattle.table.specs.laws.SizesLaws.{fits-told}
 use Rattle.text.specs.Limits.{recordBytes, textMost}
 use Rattle.calls.specs.Entry.{badTable, badWork, noHolder, shown, unsound}
 use Rattle.calls.specs.Run.{badScript, badResults}
 use Rattle.calls.specs.Read.{badText}
-use Rattle.promises.specs.Grounds.{BadSize, cellsTold, BadTable, BadWork, BadScript, BadResults, Unsound, NoHolder, withB, takingFirst, fillingB, takingOne, UsesB, onward, SomeShared, BadCode, BadHolder, Same, Null, Occupied, Shared, Needs, NoRoom}
+use Rattle.promises.specs.Grounds.{BadSize, BadTable, BadWork, BadScript, BadResults, Unsound, NoHolder, withB, takingFirst, fillingB, takingOne, UsesB, onward, SomeShared, BadCode, BadHolder, Same, Null, Occupied, Shared, Needs, NoRoom}
 use Rattle.promises.specs.TextGrounds.{BadText}
 use Rattle.promises.specs.laws.Tells.{Tells, tells-eq, tells-le, tells-lt, tells-not, tells-and, tells-or, tells-as, tells-among}
 use Rattle.table.specs.declared.Form.{Form}
@@ -87,8 +87,7 @@ tells-unsound form ts = tells-not (check (shown form ts)) (tells-sound (shown fo
 
 -- the holders that a table shows are those that it tells
 pub shown-holders : (form : Form) → (ts : List ℕ) → length (shown form ts .holders) ≡ holdersTold form ts
-unfolding view
-shown-holders form ts = length-tab (holdersTold form ts) (λ h. getD ts (head form + h) 0)
+shown-holders form ts = view-holders (shapeOf form ts) ts
 
 pub tells-holder : (form : Form) → (ts : List ℕ) (h : ℕ) → Tells (noHolder form ts h) (NoHolder (shown form ts) h)
 tells-holder form ts h = subst (λ (n : ℕ). Tells (noHolder form ts h) (n ≤ h)) (sym (shown-holders form ts)) (tells-le (holdersTold form ts) h)

@@ -5,14 +5,12 @@ use Rattle.pool.specs.Check.{check, peeled?, turns, popped, pop, arrow, meet, l
 use Rattle.pool.specs.Erase.{visit, step, dropping, total, dropped}
 use Rattle.pool.specs.Operations.{laid, fresh, share, itemOf, pfa, decap, borrow, erase, flip, inv, lastOf, concAt, conc, span, anyShared}
 use Rattle.pool.specs.Script.{refusal, effect, poolAfter, performed}
-use Rattle.table.specs.Tab.{tab}
-use Rattle.table.specs.View.{cellWord, view, cellOf, words, spread}
-use Rattle.table.specs.Sizes.{cellsOf}
-use Rattle.setup.specs.SetUp.{setUp, setUpIn}
+use Rattle.table.specs.laws.Computes.{computes}
+use Rattle.calls.specs.SetUp.{setUpIn}
 use Rattle.calls.specs.Run.{operations, ranIn}
 use Rattle.promises.specs.Machine.{assign, turn, turnAll}
 use Rattle.promises.specs.refuted.WrongEngines.{performedBy, ranBy, stepping, countsRight}
 
 unfoldable pub computed : Unit {0}
-unfolding same tally mark frees lives ifLive gives sends check peeled? turns popped pop arrow meet lowered named chained visit step dropping total dropped laid fresh share itemOf pfa decap borrow erase flip inv lastOf concAt conc span anyShared refusal effect poolAfter performed tab view cellOf cellWord words spread cellsOf setUp operations ranIn turn assign turnAll performedBy ranBy stepping countsRight
+unfolding same tally mark frees lives ifLive gives sends check peeled? turns popped pop arrow meet lowered named chained visit step dropping total dropped laid fresh share itemOf pfa decap borrow erase flip inv lastOf concAt conc span anyShared refusal effect poolAfter performed computes setUpIn operations ranIn turn assign turnAll performedBy ranBy stepping countsRight
 computed = tt

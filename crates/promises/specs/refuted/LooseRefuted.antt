@@ -6,11 +6,13 @@ use Prim.Native.Nat.{ℕ}
 use native.Mathlib.Omega.{arith}
 use lib.ListN.{length, getD, replicate}
 use Rattle.lists.specs.Lst.{extent}
+use Rattle.pool.specs.Pool.{elemOf}
 use Rattle.pool.specs.Operations.{pfl, copy, cinv, load, read}
 use Rattle.pool.specs.Script.{PFL, BORROW, ERASE, Operation}
 use Rattle.text.specs.Marks.{listIn}
 use Rattle.text.specs.Text.{scanned, verdict}
-use Rattle.setup.specs.SetUp.{setUp, setUpIn}
+use Rattle.calls.specs.SetUp.{setUp}
+use Rattle.calls.specs.Entry.{shown}
 use Rattle.calls.specs.Read.{readingIn}
 use Rattle.calls.specs.Write.{writingIn}
 use Rattle.promises.specs.Demand1.{RefusedSetUp, RefusedRun, RefusedRead, RefusedWrite, RefusedCheck, RunWork, ReadWork, WriteWork}
@@ -25,7 +27,7 @@ use Rattle.table.specs.declared.Form.the-variants.{Four}
 -- the type of cell 1 is one of the words that are 0
 pub sets-up-dirty : SetUpGives Four setsUpDirty → ⊥
 unfolding computed
-sets-up-dirty d = omega (arith, d (zeros 70) 1 refl .1 .empty 0 0 (omega arith) (omega arith))
+sets-up-dirty d = omega (arith, d (zeros 70) 1 64 refl .1 .pool .empty 1 (omega arith) (omega arith) .0)
 
 -- TABLE SIZE leaves all as lent: a word 9 of the table, the results, the output or the work space
 abbrev nine : List ℕ
@@ -36,7 +38,7 @@ cleared-nine e = omega (arith, ap (λ (us : List ℕ). getD us 0 0) e)
 
 pub clears-set-up : RefusedSetUp clearsFirst → ⊥
 unfolding computed
-clears-set-up d = cleared-nine (d nine 0 (λ z. omega arith))
+clears-set-up d = cleared-nine (d nine 0 64 (λ z. omega arith))
 
 pub clears-results : RefusedRun Four clearsFirst → ⊥
 unfolding computed
@@ -62,9 +64,9 @@ clears-write-work d = cleared-nine (d [] nine 0 [] .0 (λ n. n .0 (inl (omega ar
 pub keeps-cells : RefusedRead keepsCells → ⊥
 unfolding computed readingIn verdict scanned
 keeps-cells d =
-    let one = setUpIn Four (zeros 70) 1 .table in
+    let one = setUp (zeros 70) 1 .table in
     let e = d one (zeros 2) 0 (40 ∷ replicate 71 32) (λ z. omega arith) .0 in
-    omega (arith, ap (λ (us : List ℕ). getD us 1 0) e)
+    omega (arith, ap (λ (us : List ℕ). shown Four us .free) e)
 
 -- a text of 0 bytes is refused, with 0 bytes taken
 pub counts-refused : RefusedCheck countsRefused → ⊥
@@ -94,14 +96,14 @@ unfolding computed pfl
 waits-in-line d =
     let t = waitsInLine .run two (zeros 4) (PFL ∷ 0 ∷ 1 ∷ 0 ∷ PFL ∷ 0 ∷ 1 ∷ 0 ∷ []) (zeros 4) .table in
     let o : Operation = record { code = ERASE; a = 0; b = 0; v = 0 } in
-    let e : _≡_ {A = ℕ} 1 2 = ap (λ (us : List ℕ). getD us 1 0) (d t (zeros 4) (zeros 2) o refl) in
+    let e : _≡_ {A = ℕ} 1 2 = ap (λ (us : List ℕ). shown Four us .free) (d t (zeros 4) (zeros 2) o refl) in
     omega arith
 
 -- ((1),2) in three cells: the element of the first is the second, where the late reader has the third
 pub takes-late : ReadingUsesItsCells Four takesLate → ⊥
 unfolding computed readingIn verdict scanned listIn extent load read loadLate
 takes-late d =
-    let three = setUpIn Four (zeros 78) 3 .table in
+    let three = setUp (zeros 78) 3 .table in
     let xs : List ℕ = 40 ∷ 40 ∷ 49 ∷ 41 ∷ 44 ∷ 50 ∷ 41 ∷ replicate 65 32 in
-    let e : _≡_ {A = ℕ} 3 2 = ap (λ (us : List ℕ). getD us 67 0) (d three (zeros 6) 0 xs refl) in
+    let e : _≡_ {A = ℕ} 3 2 = ap (λ (us : List ℕ). elemOf (shown Four us .cells) 1) (d three (zeros 6) 0 xs refl) in
     omega arith

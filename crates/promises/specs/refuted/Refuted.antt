@@ -12,8 +12,7 @@ use Rattle.pool.specs.laws.Fresh.{zero-at}
 use Rattle.pool.specs.Tally.{Number, start, hit, miss}
 use Rattle.pool.specs.Pool.{Cell, Pool, countOf, holder, ListAt, Walk}
 use Rattle.pool.specs.Script.{PFA, LENGTH, Operation}
-use Rattle.table.specs.Limits.{holdersMost}
-use Rattle.setup.specs.SetUp.{setUp, setUpIn}
+use Rattle.calls.specs.SetUp.{setUp}
 use Rattle.calls.specs.Entry.{shown}
 use Rattle.promises.specs.Engine.{Engine, Reached, made, ranOn}
 use Rattle.promises.specs.Rows.{None}
@@ -39,14 +38,14 @@ prefixing a v = record { code = PFA; a = a; b = 0; v = v }
 
 -- new tables of one and of two cells
 abbrev pub one : List ℕ
-one = setUpIn Four (zeros 70) 1 .table
+one = setUp (zeros 70) 1 .table
 
 abbrev pub two : List ℕ
-two = setUpIn Four (zeros 74) 2 .table
+two = setUp (zeros 74) 2 .table
 
 -- refusing everything: a set-up of the right size is no row's
 pub always-refuses : SetUpRefusals Four alwaysRefuses → ⊥
-always-refuses d = go (d (zeros 70) 1)
+always-refuses d = go (d (zeros 70) 1 64)
   where
     fits : BadSize Four 64 1 70 → ⊥
     fits (inl h) = omega arith
@@ -64,17 +63,17 @@ unfolding ListAt
 no-atom cs c v l e w = let z = subst (λ (x : ℕ). ListAt cs x (atom v l)) e w in omega (arith, z .0)
 
 -- holders that are all null have the null list
-pub all-null : (p : Pool) → p .holders ≡ replicate holdersMost 0 → (i : ℕ) → ListAt (p .cells) (holder p i) nil
+pub all-null : (p : Pool) (k : ℕ) → p .holders ≡ zeros k → (i : ℕ) → ListAt (p .cells) (holder p i) nil
 unfolding ListAt
-all-null p e i = ap (λ (hs : List ℕ). getD hs i 0) e ∙ zero-at holdersMost i 0 refl
+all-null p k e i = ap (λ (hs : List ℕ). getD hs i 0) e ∙ zero-at k i 0 refl
 
 one-null : Holds Four one (λ i. nil)
 unfolding computed
-one-null = all-null (shown Four one) refl
+one-null = all-null (shown Four one) 64 refl
 
 pub two-null : Holds Four two (λ i. nil)
 unfolding computed
-two-null = all-null (shown Four two) refl
+two-null = all-null (shown Four two) 64 refl
 
 -- one answer for all: LENGTH says a number
 pub constant-answer : OperationsGive Four constantAnswer → ⊥
@@ -137,9 +136,9 @@ unfolding Walk
 from-null cs zero b c e n w = n (sym w ∙ e)
 from-null cs (suc k) b c e n w = let z = subst (λ (x : ℕ). 0 < countOf cs x) e (w .1 .0) in omega arith
 
-pub none-used : (p : Pool) → p .holders ≡ replicate holdersMost 0 → (c : ℕ) → c ≢ 0 → Used p c → ⊥
+pub none-used : (p : Pool) (m : ℕ) → p .holders ≡ zeros m → (c : ℕ) → c ≢ 0 → Used p c → ⊥
 unfolding ListAt
-none-used p e c n (h, _, (k, w)) = from-null (p .cells) k (holder p h) c (all-null p e h) n w
+none-used p m e c n (h, _, (k, w)) = from-null (p .cells) k (holder p h) c (all-null p m e h) n w
 
 -- the one cell erased, and not free again
 abbrev pub lost : List ℕ
@@ -147,12 +146,12 @@ lost = neverLends .run (full neverLends) (zeros 2) (erasing 0 0 0) (zeros 2) .ta
 
 pub lost-reached : Reached neverLends lost
 unfolding computed
-lost-reached = ranOn (zeros 2) (erasing 0 0 0) (zeros 2) (ranOn (zeros 2) (prefix 0 5) (zeros 2) (made (zeros 70) 1 refl))
+lost-reached = ranOn (zeros 2) (erasing 0 0 0) (zeros 2) (ranOn (zeros 2) (prefix 0 5) (zeros 2) (made (zeros 70) 1 64 refl))
 
 -- freed cells out of use: no holder reaches the one cell, and one is needed
 pub never-lends : NoRoomToPerform Four neverLends → ⊥
 unfolding computed
 never-lends d =
-    let k : Number (Used (shown Four lost)) 1 0 = miss (none-used (shown Four lost) refl 1 (λ z. omega arith)) start in
+    let k : Number (Used (shown Four lost)) 1 0 = miss (none-used (shown Four lost) 64 refl 1 (λ z. omega arith)) start in
     let n = d lost (zeros 2) (zeros 2) (prefixing 0 5) 0 1 (inl lost-reached) (λ h. omega arith) (omega arith) (pfa-passes (shown Four lost) 5 (omega arith)) k (inl (inl refl, refl)) .0 refl in
     omega (arith, n)

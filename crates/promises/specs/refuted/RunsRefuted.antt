@@ -61,7 +61,7 @@ undoes-all d =
 -- neither free nor in use: the one cell, erased
 pub never-lends-loses : FreeOrReached Four neverLends → ⊥
 unfolding computed
-never-lends-loses d = ⊎-elim (none-free (shown Four lost) refl 1) (none-used (shown Four lost) refl 1 (λ z. omega arith)) (d lost lost-reached 1 (omega arith, omega arith))
+never-lends-loses d = ⊎-elim (none-free (shown Four lost) refl 1) (none-used (shown Four lost) 64 refl 1 (λ z. omega arith)) (d lost lost-reached 1 (omega arith, omega arith))
 
 -- a table of one cell after (5) in holder 0, lent to holder 1 too, and the operations ss
 abbrev lent : List ℕ → List ℕ
@@ -76,7 +76,7 @@ unfolding computed Chain Walk
 decaps-shared d =
     let t = after decapsShared (decap 0 2) in
     let free : Free (shown Four t) 1 = (1 ∷ [], (refl, (λ z. omega arith), refl), omega arith) in
-    d t (ranOn (zeros 2) (lent (decap 0 2)) (zeros 8) (made (zeros 70) 1 refl)) 1 (omega arith, omega arith) free (1, omega arith, (0, refl))
+    d t (ranOn (zeros 2) (lent (decap 0 2)) (zeros 8) (made (zeros 70) 1 64 refl)) 1 (omega arith, omega arith) free (1, omega arith, (0, refl))
 
 -- a cell that follows itself is on no chain
 no-chain : (cs : List Cell) (c : ℕ) → c ≢ 0 → nextOf cs c ≡ c → (fs : List ℕ) → Chain cs c fs → ⊥
@@ -90,5 +90,5 @@ unfolding computed
 decaps-shared-twice d =
     let ss = decap 0 2 ++ decap 1 2 in
     let t = after decapsShared ss in
-    ⊎-elim (λ f. no-chain (shown Four t .cells) 1 (λ z. omega arith) refl (f .0) (f .1)) (none-used (shown Four t) refl 1 (λ z. omega arith))
-    (d t (ranOn (zeros 2) (lent ss) (zeros 8) (made (zeros 70) 1 refl)) 1 (omega arith, omega arith))
+    ⊎-elim (λ f. no-chain (shown Four t .cells) 1 (λ z. omega arith) refl (f .0) (f .1)) (none-used (shown Four t) 64 refl 1 (λ z. omega arith))
+    (d t (ranOn (zeros 2) (lent ss) (zeros 8) (made (zeros 70) 1 64 refl)) 1 (omega arith, omega arith))

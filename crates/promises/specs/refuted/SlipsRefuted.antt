@@ -21,6 +21,8 @@ use Rattle.promises.specs.Demand3.{Free, CountsAreArrows, EraseFrees, No
 use Rattle.promises.specs.refuted.WrongEngines.{firstCountOnly, lowersBehind, decapLowers, decapRaises, joinsItself, countsOnly}
 use Rattle.promises.specs.refuted.Computed.{computed}
 use Rattle.promises.specs.refuted.Refuted.{zeros, prefix, two}
+use Rattle.pool.specs.Setters.{cell}
+use Rattle.table.specs.View.{shape, words}
 use Rattle.table.specs.declared.Form.the-variants.{Four}
 
 -- holder 0 has (5,7) and holder 1 its tail
@@ -83,7 +85,7 @@ pub decap-lowers : CountsAreArrows Four decapLowers → ⊥
 unfolding computed
 decap-lowers d =
     let t = after decapLowers beheaded in
-    let r : Reached decapLowers t = ranOn (zeros 4) beheaded (zeros 6) (made (zeros 74) 2 refl) in
+    let r : Reached decapLowers t = ranOn (zeros 4) beheaded (zeros 6) (made (zeros 74) 2 64 refl) in
     let e = d t r 1 (omega arith, omega arith) in
     omega (arith, e)
 
@@ -91,7 +93,7 @@ pub decap-raises : CountsAreArrows Four decapRaises → ⊥
 unfolding computed
 decap-raises d =
     let t = after decapRaises beheaded in
-    let r : Reached decapRaises t = ranOn (zeros 4) beheaded (zeros 6) (made (zeros 74) 2 refl) in
+    let r : Reached decapRaises t = ranOn (zeros 4) beheaded (zeros 6) (made (zeros 74) 2 64 refl) in
     let e = d t r 1 (omega arith, omega arith) in
     omega (arith, e)
 
@@ -100,12 +102,12 @@ pub joins-itself : NoListContainsItself Four joinsItself → ⊥
 unfolding computed Walk
 joins-itself d =
     let ss = prefix 0 5 ++ (CONC ∷ 0 ∷ 0 ∷ 0 ∷ []) in
-    let r : Reached joinsItself (after joinsItself ss) = ranOn (zeros 4) ss (zeros 6) (made (zeros 74) 2 refl) in
+    let r : Reached joinsItself (after joinsItself ss) = ranOn (zeros 4) ss (zeros 6) (made (zeros 74) 2 64 refl) in
     d (after joinsItself ss) r 1 0 (1, (omega arith, inl refl), refl)
 
 -- one cell that follows itself, counted once, and no holder reaches it
 abbrev ring : List ℕ
-ring = 1 ∷ 0 ∷ (zeros 64 ++ (0 ∷ 0 ∷ 1 ∷ 1 ∷ []))
+ring = words (shape Four 64 1) (record { free = 0; holders = zeros 64; cells = cell 0 0 1 1 ∷ [] })
 
 ring-unsound : Sound (shown Four ring) → ⊥
 unfolding computed Walk

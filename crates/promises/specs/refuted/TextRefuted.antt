@@ -19,7 +19,7 @@ use Rattle.text.specs.Text.{scanned, verdict}
 use Rattle.calls.specs.Entry.{badTable, shown}
 use Rattle.calls.specs.Read.{readingIn}
 use Rattle.calls.specs.Write.{writingIn}
-use Rattle.promises.specs.Grounds.{cellsTold}
+use Rattle.table.specs.Limits.{cellsTold}
 use Rattle.promises.specs.TextGrounds.{along}
 use Rattle.promises.specs.laws.TestsTell.{tells-table, tells-sound}
 use Rattle.promises.specs.Demand2.{Records, Words, Ready, ReadingGives, ReadingTakes, CheckingGives, CheckingTakes, WritingGives, WrittenReadsBack, ReadWritesBack}

@@ -12,8 +12,10 @@ use Rattle.pool.specs.Erase.{Dropping, step, total}
 use Rattle.pool.specs.Operations.{decap, inv}
 use Rattle.pool.specs.Check.{check, chained}
 use Rattle.pool.specs.Script.{PFA, DECAP, BORROW, ERASE, INV, CINV, CONC, Operation, Effect, Run, refusal, effect, tellsFirst, tellsNumber, tellsNothing, stops, goesOn, poolAfter, performed}
-use Rattle.setup.specs.SetUp.{setUp, setUpIn}
-use Rattle.calls.specs.Entry.{badTable, badWork, shown, used}
+use Rattle.table.specs.Fields.{putField}
+use Rattle.pool.specs.Setters.{putFree}
+use Rattle.calls.specs.SetUp.{setUpIn}
+use Rattle.calls.specs.Entry.{badTable, badWork, shown, stored, used}
 use Rattle.calls.specs.Run.{Ran, operations, badScript, badResults, notRun, ranTo, ran}
 use Rattle.calls.specs.Read.{notRead, readIn}
 use Rattle.calls.specs.Write.{notWritten, writeOut}
@@ -27,7 +29,7 @@ running f = record { setUp = ours Four .setUp; run = f; read = ours Four .read; 
 -- refuses whatever it is asked
 abbrev pub alwaysRefuses : Engine
 alwaysRefuses = record {
-  setUp = λ ts n. record { answer = TABLE-SIZE; table = ts };
+  setUp = λ ts n h. record { answer = TABLE-SIZE; table = ts };
   run = λ ts ws ss rs. notRun TABLE-SIZE ts ws rs;
   read = λ ts ws h xs. notRead TABLE-SIZE ts ws;
   write = λ ts ws h out. notWritten TABLE-SIZE ws out;
@@ -63,11 +65,18 @@ abbrev pub neverLends : Engine
 neverLends = running (λ ts ws ss rs.
     let r = ran ts ws ss rs in
     cond (starts PFA ss && eqb (shown Four ts .free) 0) (notRun NO-ROOM ts (used Four ts ws) rs)
-    (record { answer = r .answer; count = r .count; table = cond (starts ERASE ss) (set (r .table) 1 (shown Four ts .free)) (r .table); work = r .work; results = r .results }))
+    (record { answer = r .answer; count = r .count; table = cond (starts ERASE ss) (stored Four ts (putFree (shown Four ts .free) (shown Four (r .table)))) (r .table); work = r .work; results = r .results }))
 
 -- a set-up that leaves a type in cell 1: a sound pool, all free, but not document 01's words
 abbrev pub setsUpDirty : Engine
-setsUpDirty = record { setUp = λ ts n. let g = setUpIn Four ts n in record { answer = g .answer; table = set (g .table) 66 7 }; run = ours Four .run; read = ours Four .read; write = ours Four .write; check = ours Four .check; rest = ours Four .rest }
+setsUpDirty = record {
+  setUp = λ ts n h. let g = setUpIn Four ts n h in record { answer = g .answer; table = stored Four (g .table) (putField 0 1 1 (shown Four (g .table))) };
+  run = ours Four .run;
+  read = ours Four .read;
+  write = ours Four .write;
+  check = ours Four .check;
+  rest = ours Four .rest;
+}
 
 -- clears what it is lent before it looks whether it may
 abbrev clearing : ℕ → List ℕ → List ℕ → List ℕ
@@ -75,7 +84,7 @@ clearing k given lent = cond (eqb k DONE) given (replicate (length lent) 0)
 
 abbrev pub clearsFirst : Engine
 clearsFirst = record {
-  setUp = λ ts n. let r = setUpIn Four ts n in record { answer = r .answer; table = clearing (r .answer) (r .table) ts };
+  setUp = λ ts n h. let r = setUpIn Four ts n h in record { answer = r .answer; table = clearing (r .answer) (r .table) ts };
   run = λ ts ws ss rs. let r = ran ts ws ss rs in record { answer = r .answer; count = r .count; table = r .table; work = clearing (r .answer) (r .work) ws; results = clearing (r .answer) (r .results) rs };
   read = λ ts ws h xs. let r = readIn ts ws h xs in record { answer = r .answer; count = r .count; table = r .table; work = clearing (r .answer) (r .work) ws };
   write = λ ts ws h out. let r = writeOut ts ws h out in record { answer = r .answer; count = r .count; work = clearing (r .answer) (r .work) ws; output = clearing (r .answer) (r .output) out };

@@ -7,13 +7,13 @@ use mathlib.Core.List.{List, _∷_}
 use native.Mathlib.Decide.{decLt}
 use native.Mathlib.Omega.{arith}
 use lib.Dec.{ltb}
-use lib.ListN.{set}
+use lib.ListN.{set, replicate}
 use borrow.Author.Tests.{lt-ltb, le-ltb}
 use Rattle.pool.specs.Operations.{laid}
-use Rattle.pool.specs.Pool.{Cell, blank, followed, setNext}
-use Rattle.pool.specs.laws.TallyLaws.{ne}
+use Rattle.pool.specs.Pool.{Cell, blank, at, followed, setNext}
 use Rattle.pool.specs.Setters.{cell}
-use Rattle.table.specs.Tab.{tab, getD-tab, tab-same, tab-set}
+use Rattle.table.specs.Tab.{tab}
+use Rattle.table.specs.laws.TabLaws.{getD-tab, tab-same, tab-set, tab-always}
 
 -- the successor of the cell with number i + 1
 abbrev pub following : ℕ → ℕ → ℕ
@@ -22,11 +22,16 @@ following k i = cond (ltb (suc i) k) (suc (suc i)) 0
 unfoldable pub linked : ℕ → ℕ → List Cell
 linked k n = tab n (λ i. cell 0 0 0 (following k i))
 
-following-on : (k i : ℕ) → suc i < k → following k i ≡ suc (suc i)
+pub following-on : (k i : ℕ) → suc i < k → following k i ≡ suc (suc i)
 following-on k i h = rw (lt-ltb (suc i) k h)
 
 pub following-off : (k i : ℕ) → k ≤ suc i → following k i ≡ 0
 following-off k i h = rw (le-ltb (suc i) k h)
+
+-- at first none is linked
+pub linked-none : (n : ℕ) → replicate n blank ≡ linked 1 n
+unfolding linked
+linked-none n = sym (tab-always n (λ i. cell 0 0 0 (following 1 i)) blank (λ i l. ap (cell 0 0 0) (following-off 1 i (omega arith))))
 
 -- only the cell with number k changes when one more is linked
 following-same : (k i : ℕ) → suc i ≢ k → following (k + 1) i ≡ following k i
@@ -70,3 +75,8 @@ unfolding linked
 linked-all n =
     tab-same n (λ i. cell 0 0 0 (following n i)) (λ i. cell 0 0 0 (cond (ltb (suc i) n) (suc (suc (0 + i))) 0)) (λ i l. ap (λ (k : ℕ). cell 0 0 0 (cond (ltb (suc i) n) (suc (suc k)) 0)) (omega arith))
     ∙ laid-linked n 0
+
+-- cell i + 1 of n
+pub laid-at : (n i : ℕ) → i < n → at (laid 0 n) (suc i) ≡ cell 0 0 0 (following n i)
+unfolding linked
+laid-at n i l = ap (λ (cs : List Cell). at cs (suc i)) (sym (linked-all n)) ∙ getD-tab n (λ j. cell 0 0 0 (following n j)) i blank l

@@ -1,7 +1,7 @@
 -- `table::holders_told` meets its contract.
-use mathlib.Core.Path.{_≡_, refl, sym, ap, ap₂, _∙_}
+use mathlib.Core.Path.{sym, ap, _∙_}
 use native.Mathlib.Omega.{arith}
-use lib.ListN.{getD, List·getD-eq-default}
+use lib.ListN.{List·getD-eq-default}
 use Rattle.table.specs.Limits.{holdersTold}
 use borrow.Author.Needs.{needs}
 use Rattle.table.proofs.holders_told.Statement.{statement}

@@ -1,7 +1,7 @@
 -- `table::part_of` meets its contract.
 use native.Mathlib.Omega.{arith}
-use Rattle.table.specs.Pack.{part, room, withPart}
-use mathlib.Core.Path.{_≡_, refl, ap, ap₂, sym, _∙_}
+use Rattle.table.specs.Pack.{part}
+use mathlib.Core.Path.{_≡_}
 use Rattle.table.proofs.part_of.Statement.{statement}
 use Rattle.table.proofs.part_of.Tie as tie
 

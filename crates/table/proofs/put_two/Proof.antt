@@ -1,6 +1,5 @@
 -- `table::put_two` meets its contract.
-use mathlib.Core.Path.{_≡_, refl, sym, ap, ap₂, _∙_}
-use Rattle.table.specs.laws.ViewLaws.{elem-stored, word-stored}
+use Rattle.table.specs.laws.PutLaws.{elem-stored, word-stored}
 use borrow.Author.Needs.{needs}
 use Rattle.table.proofs.put_two.Statement.{statement}
 use Rattle.table.proofs.put_two.Tie as tie

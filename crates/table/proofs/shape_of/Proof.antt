@@ -1,8 +1,7 @@
 -- `table::shape_of` meets its contract.
-use mathlib.Core.Path.{_≡_, refl, sym, ap, ap₂, _∙_}
+use mathlib.Core.Path.{refl, sym, _∙_}
 use native.Mathlib.Omega.{arith}
 use mathlib.Core.Bool.{true, false}
-use Prim.Native.Nat.{ℕ}
 use Rattle.table.specs.View.{shape}
 use Rattle.table.specs.laws.SizesLaws.{no-words, its-shape}
 use borrow.Author.Needs.{needs}

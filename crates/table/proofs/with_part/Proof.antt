@@ -1,7 +1,7 @@
 -- `table::with_part` meets its contract.
 use native.Mathlib.Omega.{arith}
-use Rattle.table.specs.Pack.{part, room, withPart}
-use mathlib.Core.Path.{_≡_, refl, ap, ap₂, sym, _∙_}
+use Rattle.table.specs.Pack.{withPart}
+use mathlib.Core.Path.{_≡_}
 use borrow.Author.Needs.{needs}
 use Rattle.table.proofs.with_part.Statement.{statement}
 use Rattle.table.proofs.with_part.Tie as tie

@@ -1,18 +1,23 @@
--- The cells of a sound pool fit the two words of a packed cell: no count exceeds 2 N + H, and no successor N.
+-- The cells of a sound pool fit the two words of a packed cell: no count exceeds 2 N + H, and no successor N. So its words show it.
 use mathlib.Core.Path.{_≡_, refl, sym, ap, _∙_, subst}
-use mathlib.Core.Logic.{_≢_, inl, inr}
-use mathlib.Core.Bool.{Bool, true}
+use mathlib.Core.Logic.{inl, inr}
+use mathlib.Core.Bool.{Bool}
 use mathlib.Core.List.{List, [], _∷_}
-use Prim.Native.Nat.{ℕ, zero, suc, _+_, _*_, _≤_, _<_}
+use Prim.Native.Nat.{ℕ, zero, suc, _≤_, _<_}
 use native.Mathlib.Decide.{ℕ-discrete, decLt}
 use native.Mathlib.Omega.{arith}
 use lib.ListN.{length, getD, List·getD-eq-default}
 use Rattle.pool.specs.laws.Bound.{count-bound}
 use Rattle.pool.specs.laws.Edit.{live-cell, mark-cell, mark-past}
-use Rattle.pool.specs.Pool.{Cell, blank, Pool, at, countOf, nextOf, Live, NullOrLive, Chain, mark, Sound}
-use Rattle.pool.specs.Tally.{same, tally, occ}
+use Rattle.pool.specs.Pool.{Cell, blank, Pool, countOf, nextOf, NullOrLive, Chain, Sound}
+use Rattle.pool.specs.Tally.{tally, occ}
 use Rattle.pool.specs.laws.TallyLaws.{same-of, Same, eq, ne, same?}
-use Rattle.table.specs.laws.WordsLaws.{Fit}
+use Rattle.table.specs.declared.Shape.{Shape}
+use Rattle.table.specs.Limits.{packs}
+use Rattle.table.specs.View.{view, words, Table, Shows}
+use Rattle.table.specs.laws.ViewLaws.{numbers}
+use Rattle.table.specs.laws.SizesLaws.{Fits, fits-told, holds, table-fits}
+use Rattle.table.specs.laws.WordsLaws.{Fit, view-words, words-table}
 
 -- of the cells of a chain, each is followed by the next or by 0
 chain-next : (cs : List Cell) (n f : ℕ) (fs : List ℕ) → Chain cs f fs → ((c : ℕ) → 0 < occ fs c → c ≤ n) → (c : ℕ) → 0 < occ fs c → nextOf cs c ≤ n
@@ -53,5 +58,19 @@ next-bound p s c = go (ℕ-discrete c 0) (decLt (length cs) c) (ℕ-discrete (co
         let z : 0 < occ (k .0) c = omega (arith, k .2 c, mark-cell cs c (omega arith) (omega arith), same-of (countOf cs c) 0 e) in
         chain-next cs (length cs) (p .free) (k .0) (k .1) (λ d l. mark-past cs d (omega (arith, k .2 d)) .1) c z
 
-pub sound-fits : (b : Bool) (p : Pool) → Sound p → length (p .cells) ≤ 8000 → length (p .holders) ≤ 256 → (i : ℕ) → Fit b (getD (p .cells) i blank)
+sound-fits : (b : Bool) (p : Pool) → Sound p → length (p .cells) ≤ 8000 → length (p .holders) ≤ 256 → (i : ℕ) → Fit b (getD (p .cells) i blank)
 sound-fits b p s n h i = λ e. (omega (arith, count-bound p s (suc i)), omega (arith, next-bound p s (suc i)))
+
+-- the words of a sound pool show it
+pub sound-shows : {k : ℕ} (s : Shape) (p : Pool) → Fits s k → length (p .holders) ≡ s .holders → length (p .cells) ≡ s .cells → Sound p → Shows s (words s p) p
+sound-shows s p f eh ec h =
+    let n = numbers (s .form) (s .cells) (f .few) .few in
+    let w = holds (s .form) (s .holders) (f .held) .wide in
+    record {
+      table = words-table s p eh ec f;
+      is = view-words s p eh ec (λ i l. sound-fits (packs (s .form)) p h (omega (arith, ec, n)) (omega (arith, eh, w)) i);
+    }
+
+-- also where they take the place of a table that shows as many cells and holders
+pub stored-shows : (s : Shape) (ws : List ℕ) (p : Pool) → Table s ws → length (p .holders) ≡ length (view s ws .holders) → length (p .cells) ≡ length (view s ws .cells) → Sound p → Shows s (words s p) p
+stored-shows s ws p t eh ec h = sound-shows s p (fits-told s (length ws) (table-fits s ws t)) (eh ∙ t .held) (ec ∙ t .measured) h

@@ -10,13 +10,13 @@ use Prim.Native.Nat.{ℕ, _≤_, _<_, zero, suc, _+_}
 use native.Mathlib.Omega.{arith}
 use lib.Dec.{eqb, leb}
 use lib.ListN.{length, getD, set, replicate, drop, length-append, length-replicate, length-drop}
-use borrow.Author.Tests.{eq-eqb, ne-eqb, le-leb, lt-leb, leb-true, eqb-true}
+use borrow.Author.Tests.{eq-eqb, le-leb, lt-leb, leb-true, eqb-true}
 use lib.Seq.{drop-cons, set-at}
 use native.Mathlib.Numerals.{add-one}
-use Rattle.table.specs.Limits.{head, cellsMost, holdersFit, holdersTold, holdersMany, holdersMost, tableWords}
+use Rattle.table.specs.Limits.{cellsMost, cellsTold, holdersFit, holdersTold, holdersMany, holdersMost, tableWords}
 use Rattle.table.specs.View.{shape, Table}
 use Rattle.table.specs.Sizes.{sizesFit, cellsOf, shapeOf, cleared}
-use Rattle.table.specs.laws.ViewLaws.{is-table}
+use Rattle.table.specs.laws.ViewLaws.{numbers, is-table}
 
 -- the number of holders that a form allows
 pub record Holds (h : ℕ) : Type 0 where
@@ -32,11 +32,6 @@ holds Wide h e = go (leb 1 h) (leb h holdersMany) refl refl e
     go true true p q e = record { some = leb-true 1 h p; wide = leb-true h holdersMany q }
     go true false p q e = absurd (false≢true e)
     go false b p q e = absurd (false≢true e)
-
-pub short : (f : Form) → head f ≤ 3
-short Four = omega arith
-short Packed = omega arith
-short Wide = omega arith
 
 pub none : (s : Shape) (k : ℕ) → s .cells < 1 → sizesFit s k ≡ false
 none s k h = rw (lt-leb 1 (s .cells) h)
@@ -70,10 +65,14 @@ fits-told s k h = go (leb 1 (s .cells)) (leb (s .cells) (cellsMost (s .form))) (
     go false b c d ea eb ec ed h = absurd (false≢true h)
 
 -- words of that size that tell the shape are a table of it
-pub fits-table : (s : Shape) (ts : List ℕ) → Fits s (length ts) → getD ts 0 0 ≡ s .cells → holdersTold (s .form) ts ≡ s .holders → Table s ts
+pub fits-table : (s : Shape) (ts : List ℕ) → Fits s (length ts) → cellsTold ts ≡ s .cells → holdersTold (s .form) ts ≡ s .holders → Table s ts
 fits-table s ts f a b =
     let w = holds (s .form) (s .holders) (f .held) in
     is-table s ts (f .some) (f .few) (w .some) (w .wide) (f .long) a b
+
+-- a table has more than two words
+pub some-words : (s : Shape) (k : ℕ) → Fits s k → 2 < k
+some-words s k f = omega (arith, f .long, numbers (s .form) (s .cells) (f .few) .low, holds (s .form) (s .holders) (f .held) .some)
 
 -- words that tell a number of cells are a table of that shape
 pub cells-table : (f : Form) (ts : List ℕ) → cellsOf f ts ≢ 0 → Table (shapeOf f ts) ts
@@ -81,9 +80,9 @@ unfolding cellsOf
 cells-table f ts n = go (sizesFit told (length ts)) refl n
   where
     told : Shape
-    told = shape f (holdersTold f ts) (getD ts 0 0)
+    told = shape f (holdersTold f ts) (cellsTold ts)
 
-    go : (b : Bool) → sizesFit told (length ts) ≡ b → cond b (getD ts 0 0) 0 ≢ 0 → Table (shape f (holdersTold f ts) (cond b (getD ts 0 0) 0)) ts
+    go : (b : Bool) → sizesFit told (length ts) ≡ b → cond b (cellsTold ts) 0 ≢ 0 → Table (shape f (holdersTold f ts) (cond b (cellsTold ts) 0)) ts
     go true e m = fits-table told ts (fits-told told (length ts) e) refl refl
     go false e m = absurd (m refl)
 
@@ -109,11 +108,11 @@ unfolding cellsOf
 no-words f [] e = sym (ap (λ (b : Bool). cond b 0 0) (none (shape f (holdersTold f []) 0) 0 (omega arith)))
 no-words f (t ∷ ts) e = absurd (omega arith)
 
-pub its-cells : (f : Form) (ts : List ℕ) (b : Bool) → b ≡ sizesFit (shape f (holdersTold f ts) (getD ts 0 0)) (length ts) → cond b (getD ts 0 0) 0 ≡ cellsOf f ts
+pub its-cells : (f : Form) (ts : List ℕ) (b : Bool) → b ≡ sizesFit (shape f (holdersTold f ts) (cellsTold ts)) (length ts) → cond b (cellsTold ts) 0 ≡ cellsOf f ts
 unfolding cellsOf
-its-cells f ts b e = ap (λ (c : Bool). cond c (getD ts 0 0) 0) e
+its-cells f ts b e = ap (λ (c : Bool). cond c (cellsTold ts) 0) e
 
-pub its-shape : (f : Form) (ts : List ℕ) (h n : ℕ) (b : Bool) → h ≡ holdersTold f ts → n ≡ getD ts 0 0 → b ≡ sizesFit (shape f h n) (length ts) → shape f h (cond b n 0) ≡ shapeOf f ts
+pub its-shape : (f : Form) (ts : List ℕ) (h n : ℕ) (b : Bool) → h ≡ holdersTold f ts → n ≡ cellsTold ts → b ≡ sizesFit (shape f h n) (length ts) → shape f h (cond b n 0) ≡ shapeOf f ts
 its-shape f ts h n b p q e = λ i. shape f (p i) ((ap (λ (x : ℕ). cond b x 0) q ∙ its-cells f ts b (e ∙ λ j. sizesFit (shape f (p j) (q j)) (length ts))) i)
 
 -- clearing word by word

@@ -1,102 +1,32 @@
--- A store to a word of the table is a setter of the pool, in every form. Assumes nothing.
-use Prim.Native.Nat.{ℕ, zero, suc, _+_, _*_, _-_, _/_, _%_, _≤_, _<_}
+-- What the words of a table show: each field is read from its words, and a store is a setter of the pool, in every form.
+use Prim.Native.Nat.{ℕ, zero, suc, _+_, _*_, _-_, _≤_, _<_, _^_}
 use mathlib.Core.Logic.{_≢_}
-use mathlib.Core.Path.{_≡_, refl, ap, ap₂, sym, _∙_}
-use mathlib.Core.Bool.{Bool, true, false, cond, false≢true}
+use mathlib.Core.Path.{_≡_, refl, ap, ap₂, sym, _∙_, subst}
+use mathlib.Core.Bool.{Bool, true, false, false≢true}
 use mathlib.Core.List.{List}
 use native.Mathlib.Omega.{arith}
 use native.Mathlib.Decide.{ℕ-discrete, decLt}
-use lib.ListN.{length, getD, set, length-set}
-use lib.Seq.{getD-set-same, getD-set-other, ext-getD}
-use lib.Dec.{eqb}
-use borrow.Author.Tests.{eq-eqb, ne-eqb}
+use lib.ListN.{length, getD, set, length-set, List·getD-eq-default}
+use lib.Seq.{getD-set-same, getD-set-other}
 use Rattle.table.specs.declared.Form.{Form}
 use Rattle.table.specs.declared.Form.the-variants.{Four, Packed, Wide}
 use Rattle.table.specs.declared.Shape.{Shape}
 use Rattle.pool.specs.laws.Edit.{put-same, put-put}
-use Rattle.pool.specs.Pool.{Cell, blank, Pool, at, put, holder}
-use Rattle.table.specs.Limits.{packs, head, holdersTold, holdersMany, cellsMost, cellsIn, tableWords}
-use Rattle.table.specs.Tab.{tab, length-tab, getD-tab, tab-same, tab-set}
-use Rattle.table.specs.Fields.{pick, field, fitted, putField}
+use Rattle.pool.specs.Pool.{Cell, blank, Pool, at, put, elemOf, holder}
+use Rattle.table.specs.Limits.{packs, head, cellsTold, holdersTold, holdersMany, cellsMost, cellsIn, tableWords}
+use Rattle.table.specs.Tab.{tab}
+use Rattle.table.specs.laws.TabLaws.{length-tab, getD-tab, tab-same, tab-set}
+use Rattle.table.specs.Fields.{field, fitted, putField}
 use Rattle.pool.specs.Setters.{cell, celled, putCell, putFree, putHolder}
-use Rattle.table.specs.Pack.{part, room, withPart, part-with, part-elem, whole}
+use Rattle.table.specs.Pack.{part, room}
 use Rattle.table.specs.View.{holderCount, start, cellWord, storedTwo, cellOf, view, Table, IsCell, Shows}
+use Rattle.table.specs.laws.PutLaws.{Put, put-four, put-two}
 
 pub pool-path : {f f′ : ℕ} {h h′ : List ℕ} {c c′ : List Cell} → f ≡ f′ → h ≡ h′ → c ≡ c′ → _≡_ {A = Pool} (record { free = f; holders = h; cells = c }) (record { free = f′; holders = h′; cells = c′ })
 pool-path pf ph pc = λ i. record { free = pf i; holders = ph i; cells = pc i }
 
 pub cell-path : {k k′ e e′ n n′ s s′ : ℕ} → k ≡ k′ → e ≡ e′ → n ≡ n′ → s ≡ s′ → _≡_ {A = Cell} (record { kind = k; elem = e; count = n; next = s }) (record { kind = k′; elem = e′; count = n′; next = s′ })
 cell-path pk pe pn ps = λ i. record { kind = pk i; elem = pe i; count = pn i; next = ps i }
-
--- us is ws with v put in field k of cell i + 1; a is where the cells begin
-pub record Put (b : Bool) (a : ℕ) (ws us : List ℕ) (k i v : ℕ) : Type 0 where
-  pub heads : (w : ℕ) → w < a → getD us w 0 ≡ getD ws w 0
-  pub others : (j d : ℕ) → j < 4 → d ≢ i → cellWord b a j us d ≡ cellWord b a j ws d
-  pub there : (j : ℕ) → j < 4 → cellWord b a j us i ≡ pick (eqb k j) v (cellWord b a j ws i)
-  pub long : length us ≡ length ws
-
-pub put-four : (a : ℕ) (ws : List ℕ) (k i v : ℕ) → k < 4 → a + 4 * i + 3 < length ws → Put false a ws (set ws (a + 4 * i + k) v) k i v
-unfolding cellWord
-put-four a ws k i v lk l = record {
-  heads = λ w m. getD-set-other ws (a + 4 * i + k) w v 0 (omega arith);
-  others = λ j d lj ne. getD-set-other ws (a + 4 * i + k) (a + 4 * d + j) v 0 (λ q. ne (omega arith));
-  there = λ j lj. go j lj (ℕ-discrete k j);
-  long = length-set ws (a + 4 * i + k) v;
-}
-  where
-    go : (j : ℕ) → j < 4 → Dec (k ≡ j) → getD (set ws (a + 4 * i + k) v) (a + 4 * i + j) 0 ≡ pick (eqb k j) v (getD ws (a + 4 * i + j) 0)
-    go j lj (yes q) = rw (eq-eqb k j q, ← q) (getD-set-same ws (a + 4 * i + k) v 0 (omega arith))
-    go j lj (no ne) = rw (ne-eqb k j ne) (getD-set-other ws (a + 4 * i + k) (a + 4 * i + j) v 0 (λ q. ne (omega arith)))
-
--- the element, a word of its own
-put-second : (a : ℕ) (ws : List ℕ) (i v : ℕ) → a + 2 * i + 1 < length ws → Put true a ws (set ws (a + 2 * i + 1) v) 1 i v
-unfolding cellWord
-put-second a ws i v l =
-    let z : ℕ = a + 2 * i + 1 in
-    record {
-      heads = λ w m. getD-set-other ws z w v 0 (omega arith);
-      others = λ j d lj ne. ap₂ (part j) (getD-set-other ws z (a + 2 * d) v 0 (omega arith)) (getD-set-other ws z (a + 2 * d + 1) v 0 (λ q. ne (omega arith)));
-      there = λ j lj. ap₂ (part j) (getD-set-other ws z (a + 2 * i) v 0 (omega arith)) (getD-set-same ws z v 0 l) ∙ part-elem j v (getD ws (a + 2 * i) 0) (getD ws z 0) lj;
-      long = length-set ws z v;
-    }
-
--- one of the three that share a word
-put-first : (a : ℕ) (ws : List ℕ) (k i v : ℕ) → k < 4 → k ≢ 1 → v < room k → a + 2 * i + 1 < length ws → Put true a ws (set ws (a + 2 * i) (withPart k v (getD ws (a + 2 * i) 0))) k i v
-unfolding cellWord
-put-first a ws k i v lk n lv l =
-    let y : ℕ = a + 2 * i in
-    let x : ℕ = withPart k v (getD ws y 0) in
-    record {
-      heads = λ w m. getD-set-other ws y w x 0 (omega arith);
-      others = λ j d lj ne. ap₂ (part j) (getD-set-other ws y (a + 2 * d) x 0 (λ q. ne (omega arith))) (getD-set-other ws y (a + 2 * d + 1) x 0 (omega arith));
-      there = λ j lj. ap₂ (part j) (getD-set-same ws y x 0 (omega arith)) (getD-set-other ws y (a + 2 * i + 1) x 0 (omega arith)) ∙ part-with j k v (getD ws y 0) (getD ws (a + 2 * i + 1) 0) lj lk n lv;
-      long = length-set ws y x;
-    }
-
-pub put-two : (a : ℕ) (ws : List ℕ) (k i v : ℕ) → k < 4 → v < room k → a + 2 * i + 1 < length ws → Put true a ws (storedTwo a i k v ws) k i v
-unfolding storedTwo
-put-two a ws k i v lk lv l = go (ℕ-discrete k 1)
-  where
-    go : Dec (k ≡ 1) → Put true a ws (cond (eqb k 1) (set ws (a + 2 * i + 1) v) (set ws (a + 2 * i) (withPart k v (getD ws (a + 2 * i) 0)))) k i v
-    go (yes e) = rw e (put-second a ws i v l)
-    go (no n) = rw (ne-eqb k 1 n) (put-first a ws k i v lk n lv l)
-
--- which of the words is stored
-pub elem-stored : (a i k v : ℕ) (ws : List ℕ) → k ≡ 1 → set ws (a + 2 * i + 1) v ≡ storedTwo a i k v ws
-unfolding storedTwo
-elem-stored a i k v ws e = rw (eq-eqb k 1 e) refl
-
-pub word-stored : (a i k v x : ℕ) (ws : List ℕ) → k ≢ 1 → x ≡ withPart k v (getD ws (a + 2 * i) 0) → set ws (a + 2 * i) x ≡ storedTwo a i k v ws
-unfolding storedTwo
-word-stored a i k v x ws n e = rw (ne-eqb k 1 n) (ap (λ (u : ℕ). set ws (a + 2 * i) u) e)
-
-pub stored-length : (a i k v : ℕ) (ws : List ℕ) → length (storedTwo a i k v ws) ≡ length ws
-unfolding storedTwo
-stored-length a i k v ws = go (eqb k 1)
-  where
-    go : (b : Bool) → length (cond b (set ws (a + 2 * i + 1) v) (set ws (a + 2 * i) (withPart k v (getD ws (a + 2 * i) 0)))) ≡ length ws
-    go true = length-set ws (a + 2 * i + 1) v
-    go false = length-set ws (a + 2 * i) (withPart k v (getD ws (a + 2 * i) 0))
 
 -- words that agree on a cell
 cell-same : (b : Bool) (a : ℕ) (ws us : List ℕ) (i : ℕ) → ((k : ℕ) → k < 4 → cellWord b a k us i ≡ cellWord b a k ws i) → cellOf b a us i ≡ cellOf b a ws i
@@ -116,22 +46,44 @@ cell-read b a ws i (suc (suc (suc zero))) h = refl
 cell-read b a ws i (suc (suc (suc (suc k)))) h = absurd (omega arith)
 
 -- each form in numbers
-pub record Numbers (f : Form) (h n : ℕ) : Type 0 where
+pub record Numbers (f : Form) (n : ℕ) : Type 0 where
   pub few : n ≤ 8000
   pub low : 2 ≤ head f
-  pub short : head f ≤ 3
 
-pub numbers : (f : Form) (h n : ℕ) → n ≤ cellsMost f → Numbers f h n
-numbers Four h n a = record { few = omega arith; low = omega arith; short = omega arith }
-numbers Packed h n a = record { few = omega arith; low = omega arith; short = omega arith }
-numbers Wide h n a = record { few = omega arith; low = omega arith; short = omega arith }
+pub numbers : (f : Form) (n : ℕ) → n ≤ cellsMost f → Numbers f n
+numbers Four n a = record { few = omega arith; low = omega arith }
+numbers Packed n a = record { few = omega arith; low = omega arith }
+numbers Wide n a = record { few = omega arith; low = omega arith }
+
+-- any words show as many cells and holders as the shape has
+pub view-cells : (s : Shape) (ws : List ℕ) → length (view s ws .cells) ≡ s .cells
+unfolding view
+view-cells s ws = length-tab (s .cells) (cellOf (packs (s .form)) (start s) ws)
+
+pub view-holders : (s : Shape) (ws : List ℕ) → length (view s ws .holders) ≡ holderCount s
+unfolding view
+view-holders s ws = length-tab (holderCount s) (λ h. getD ws (head (s .form) + h) 0)
+
+-- an element is a word of its own in every form
+elem-small : (b : Bool) (a : ℕ) (ws : List ℕ) (i : ℕ) → ((j : ℕ) → getD ws j 0 < 2 ^ 32) → cellOf b a ws i .elem < 2 ^ 32
+unfolding cellOf cellWord part
+elem-small false a ws i h = h (a + 4 * i + 1)
+elem-small true a ws i h = h (a + 2 * i + 1)
+
+pub small-elems : (s : Shape) (ws : List ℕ) → ((j : ℕ) → getD ws j 0 < 2 ^ 32) → (c : ℕ) → elemOf (view s ws .cells) c < 2 ^ 32
+unfolding view
+small-elems s ws h zero = omega arith
+small-elems s ws h (suc i) = go (decLt i (s .cells))
+  where
+    go : Dec (i < s .cells) → elemOf (view s ws .cells) (suc i) < 2 ^ 32
+    go (yes l) = subst (λ (x : Cell). x .elem < 2 ^ 32) (sym (getD-tab (s .cells) (cellOf (packs (s .form)) (start s) ws) i blank l)) (elem-small (packs (s .form)) (start s) ws i h)
+    go (no l) = subst (λ (x : Cell). x .elem < 2 ^ 32) (sym (List·getD-eq-default (view s ws .cells) blank {n = i} (omega (arith, view-cells s ws)))) (omega arith)
 
 -- a table is told by its words
 pub is-table : (s : Shape) (ws : List ℕ) → 1 ≤ s .cells → s .cells ≤ cellsMost (s .form) → 1 ≤ s .holders → s .holders ≤ holdersMany
-    → length ws ≡ tableWords (s .form) (s .holders) (s .cells) → getD ws 0 0 ≡ s .cells → holdersTold (s .form) ws ≡ s .holders → Table s ws
-unfolding view
+    → length ws ≡ tableWords (s .form) (s .holders) (s .cells) → cellsTold ws ≡ s .cells → holdersTold (s .form) ws ≡ s .holders → Table s ws
 is-table s ws a b x y c d e =
-    let m = numbers (s .form) (s .holders) (s .cells) b in
+    let m = numbers (s .form) (s .cells) b in
     record {
       some = a;
       within = b;
@@ -142,8 +94,8 @@ is-table s ws a b x y c d e =
       holds = x;
       wide = y;
       low = m .low;
-      measured = length-tab (s .cells) (cellOf (packs (s .form)) (start s) ws);
-      held = length-tab (holderCount s) (λ h. getD ws (head (s .form) + h) 0);
+      measured = view-cells s ws;
+      held = view-holders s ws;
     }
 
 -- words before the holders that agree
@@ -258,65 +210,6 @@ module _ (s : Shape) (ws : List ℕ) (t : Table s ws) where
 
   pub stored-holder : (a h v : ℕ) → a ≡ head (s .form) → h < holderCount s → Shows s (set ws (a + h) v) (putHolder h v (view s ws))
   stored-holder a h v e l = rw e (record { table = keeps (head (s .form) + h) v (omega (arith, t .low)) (λ n. omega arith); is = store-holder h v l })
-
--- equal fields, equal words
-word-four : (a : ℕ) (ws us : List ℕ) (i : ℕ) → ((k : ℕ) → k < 4 → cellWord false a k ws i ≡ cellWord false a k us i) → (k : ℕ) → k < 4 → getD ws (a + 4 * i + k) 0 ≡ getD us (a + 4 * i + k) 0
-unfolding cellWord
-word-four a ws us i h k l = h k l
-
-word-two : (a : ℕ) (ws us : List ℕ) (i : ℕ) → ((k : ℕ) → k < 4 → cellWord true a k ws i ≡ cellWord true a k us i) → (k : ℕ) → k < 2 → getD ws (a + 2 * i + k) 0 ≡ getD us (a + 2 * i + k) 0
-unfolding cellWord part
-word-two a ws us i h zero l =
-    let q : a + 2 * i + 0 ≡ a + 2 * i = omega arith in
-    let x = h 0 (omega arith) in
-    let y = h 2 (omega arith) in
-    let z = h 3 (omega arith) in
-    rw q (whole (getD ws (a + 2 * i) 0) ∙ (λ j. x j * 2147483648 + y j * 65536 + z j) ∙ sym (whole (getD us (a + 2 * i) 0)))
-word-two a ws us i h (suc zero) l = h 1 (omega arith)
-word-two a ws us i h (suc (suc k)) l = absurd (omega arith)
-
-cells-fix : (b : Bool) (a n : ℕ) (ws us : List ℕ) → length ws ≡ a + cellsIn b n → ((i k : ℕ) → i < n → k < 4 → cellWord b a k ws i ≡ cellWord b a k us i) → (w : ℕ) → a ≤ w → w < length ws → getD ws w 0 ≡ getD us w 0
-cells-fix false a n ws us e h w l m =
-    let q : w ≡ a + 4 * ((w - a) / 4) + (w - a) % 4 = omega arith in
-    rw q (word-four a ws us ((w - a) / 4) (λ k lk. h ((w - a) / 4) k (omega arith) lk) ((w - a) % 4) (omega arith))
-cells-fix true a n ws us e h w l m =
-    let q : w ≡ a + 2 * ((w - a) / 2) + (w - a) % 2 = omega arith in
-    rw q (word-two a ws us ((w - a) / 2) (λ k lk. h ((w - a) / 2) k (omega arith) lk) ((w - a) % 2) (omega arith))
-
--- what stands before the holders
-front-fixes : (f : Form) (ws us : List ℕ) → getD ws 0 0 ≡ getD us 0 0 → getD ws 1 0 ≡ getD us 1 0 → holdersTold f ws ≡ holdersTold f us → (w : ℕ) → w < head f → getD ws w 0 ≡ getD us w 0
-front-fixes f ws us a b e zero l = a
-front-fixes f ws us a b e (suc zero) l = b
-front-fixes Four ws us a b e (suc (suc w)) l = absurd (omega arith)
-front-fixes Packed ws us a b e (suc (suc w)) l = absurd (omega arith)
-front-fixes Wide ws us a b e (suc (suc zero)) l = e
-front-fixes Wide ws us a b e (suc (suc (suc w))) l = absurd (omega arith)
-
--- equal pools, equal words
-pub view-fixes : (s : Shape) (ws us : List ℕ) → Table s ws → Table s us → view s ws ≡ view s us → ws ≡ us
-view-fixes s ws us t u e = ext-getD 0 ws us (t .sized ∙ sym (u .sized)) (λ w l. at-word w l (decLt w (head (s .form))) (decLt w (start s)))
-  where
-    at-cell : (i k : ℕ) → i < s .cells → k < 4 → cellWord (packs (s .form)) (start s) k ws i ≡ cellWord (packs (s .form)) (start s) k us i
-    at-cell i k l hk =
-        read-at s ws t i k l hk ∙ ap (λ (p : Pool). field k (at (p .cells) (suc i))) e ∙ sym (read-at s us u i k l hk)
-
-    at-holder : (h : ℕ) → h < holderCount s → getD ws (head (s .form) + h) 0 ≡ getD us (head (s .form) + h) 0
-    at-holder h l = read-holder s ws t h l ∙ ap (λ (p : Pool). holder p h) e ∙ sym (read-holder s us u h l)
-
-    at-word : (w : ℕ) → w < length ws → Dec (w < head (s .form)) → Dec (w < start s) → getD ws w 0 ≡ getD us w 0
-    at-word w l (yes h) z = front-fixes (s .form) ws us (t .told ∙ sym (u .told)) (read-free s ws t ∙ ap (λ (p : Pool). p .free) e ∙ sym (read-free s us u)) (t .heads ∙ sym (u .heads)) w h
-    at-word w l (no h) (yes z) =
-        let q : w ≡ head (s .form) + (w - head (s .form)) = omega arith in
-        rw q (at-holder (w - head (s .form)) (omega arith))
-    at-word w l (no h) (no z) = cells-fix (packs (s .form)) (start s) (s .cells) ws us (t .sized) at-cell w (omega arith) l
-
--- words that agree on the first free cell, the holders and every field show the same pool
-pub same-view : (s : Shape) (ws us : List ℕ) → getD ws 1 0 ≡ getD us 1 0 → ((h : ℕ) → h < s .holders → getD ws (head (s .form) + h) 0 ≡ getD us (head (s .form) + h) 0)
-    → ((i k : ℕ) → i < s .cells → k < 4 → cellWord (packs (s .form)) (start s) k ws i ≡ cellWord (packs (s .form)) (start s) k us i) → view s ws ≡ view s us
-unfolding view
-same-view s ws us a b c =
-    pool-path a (tab-same (holderCount s) (λ h. getD ws (head (s .form) + h) 0) (λ h. getD us (head (s .form) + h) 0) b)
-    (tab-same (s .cells) (cellOf (packs (s .form)) (start s) ws) (cellOf (packs (s .form)) (start s) us) (λ i l. cell-same (packs (s .form)) (start s) us ws i (λ k m. c i k l m)))
 
 -- a table stands for its own view
 pub itself : {s : Shape} {ws : List ℕ} → Table s ws → Shows s ws (view s ws)

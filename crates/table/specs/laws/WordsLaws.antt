@@ -1,5 +1,5 @@
 -- Words and pools of one shape stand for each other: the words of a pool show it, and a table's words are those of the pool it shows.
-use Prim.Native.Nat.{ℕ, zero, suc, _+_, _*_, _≤_, _<_}
+use Prim.Native.Nat.{ℕ, zero, suc, _+_, _*_, _<_}
 use lib.ListN.{length, getD, List·getD-append, length-append}
 use lib.Seq.{getD-append-add}
 use Rattle.table.specs.declared.Form.{Form}
@@ -9,13 +9,18 @@ use mathlib.Core.Path.{_≡_, refl, sym, ap, ap₂, _∙_}
 use mathlib.Core.Bool.{Bool, true, false, false≢true}
 use mathlib.Core.List.{List, [], _∷_, _++_}
 use native.Mathlib.Omega.{arith}
+use borrow.Author.Tests.{eqb-true}
 use Rattle.pool.specs.Pool.{Cell, blank, Pool}
-use Rattle.table.specs.Limits.{packs, head, holdersTold, holdersMany, cellsMost, cellsIn, tableWords}
-use Rattle.table.specs.Tab.{tab, tab-same, tab-getD, getD-tab}
+use Rattle.table.specs.Limits.{packs, head, holdersFit, holdersTold, holdersMost, cellsIn, tableWords}
+use Rattle.table.specs.Tab.{tab}
+use Rattle.table.specs.laws.TabLaws.{tab-same, tab-getD, getD-tab}
 use Rattle.table.specs.Fields.{field}
-use Rattle.table.specs.Pack.{part, packed, part-packed, count-below, next-below}
+use Rattle.table.specs.Pack.{part, packed}
+use Rattle.table.specs.laws.PackLaws.{part-packed, count-below, next-below}
 use Rattle.table.specs.View.{holderCount, start, cellWord, cellOf, view, spread, telling, words, Table, Shows}
-use Rattle.table.specs.laws.ViewLaws.{pool-path, cell-path, is-table, view-fixes}
+use Rattle.table.specs.laws.ViewLaws.{pool-path, cell-path}
+use Rattle.table.specs.laws.FixedLaws.{view-fixes}
+use Rattle.table.specs.laws.SizesLaws.{Fits, fits-told, fits-table, table-fits}
 
 -- what two words have room for; four have room for any cell
 abbrev pub Fit : Bool → Cell → Type 0
@@ -96,9 +101,10 @@ telling-past Wide n v h r i =
     let q : 3 + i ≡ suc (suc (suc i)) = omega arith in
     rw q refl
 
--- a number of holders that the form allows
-abbrev pub Tells : Form → ℕ → Type 0
-Tells f h = (ws : List ℕ) (n v : ℕ) → holdersTold f (n ∷ v ∷ telling f h ws) ≡ h
+telling-told : (f : Form) (h n v : ℕ) (r : List ℕ) → holdersFit f h ≡ true → holdersTold f (n ∷ v ∷ telling f h r) ≡ h
+telling-told Four h n v r e = sym (eqb-true h holdersMost e)
+telling-told Packed h n v r e = sym (eqb-true h holdersMost e)
+telling-told Wide h n v r e = refl
 
 module _ (s : Shape) (p : Pool) (eh : length (p .holders) ≡ holderCount s) (ec : length (p .cells) ≡ s .cells) where
   abbrev rest : List ℕ
@@ -142,15 +148,11 @@ module _ (s : Shape) (p : Pool) (eh : length (p .holders) ≡ holderCount s) (ec
     unfolding view words
     view-words = pool-path refl holders-back cells-back
 
-  pub words-table : 1 ≤ s .cells → s .cells ≤ cellsMost (s .form) → 1 ≤ s .holders → s .holders ≤ holdersMany → Tells (s .form) (s .holders) → Table s (words s p)
+  pub words-table : {k : ℕ} → Fits s k → Table s (words s p)
   unfolding words
-  words-table a b c d e = is-table s ws a b c d words-length refl (e rest (s .cells) (p .free))
-
--- the number of holders that a table has is one that its form can tell
-pub telling-told : (f : Form) (h : ℕ) (ws : List ℕ) → holdersTold f ws ≡ h → Tells f h
-telling-told Four h ws e = λ us n v. e
-telling-told Packed h ws e = λ us n v. e
-telling-told Wide h ws e = λ us n v. refl
+  words-table f =
+      let g : Fits s (length ws) = record { some = f .some; few = f .few; held = f .held; long = words-length } in
+      fits-table s ws g refl (telling-told (s .form) (s .holders) (s .cells) (p .free) rest (f .held))
 
 -- every cell that words show has room in them
 shown-fits : (b : Bool) (a : ℕ) (ws : List ℕ) (i : ℕ) → Fit b (cellOf b a ws i)
@@ -165,7 +167,8 @@ view-fits s ws i l = rw (getD-tab (s .cells) (cellOf (packs (s .form)) (start s)
 -- a table has the words of the pool that it shows
 pub words-view : (s : Shape) (ws : List ℕ) → Table s ws → words s (view s ws) ≡ ws
 words-view s ws t =
-    view-fixes s (words s (view s ws)) ws (words-table s (view s ws) (t .held) (t .measured) (t .some) (t .within) (t .holds) (t .wide) (telling-told (s .form) (s .holders) ws (t .heads))) t (view-words s (view s ws) (t .held) (t .measured) (view-fits s ws))
+    let f = fits-told s (length ws) (table-fits s ws t) in
+    view-fixes s (words s (view s ws)) ws (words-table s (view s ws) (t .held) (t .measured) f) t (view-words s (view s ws) (t .held) (t .measured) (view-fits s ws))
 
 -- so what a table shows fixes every word
 pub shown-words : {s : Shape} {ws : List ℕ} {p : Pool} → Shows s ws p → ws ≡ words s p

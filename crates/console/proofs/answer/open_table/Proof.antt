@@ -1,35 +1,56 @@
 -- `console::answer::open_table` meets its contract.
-use Prim.Native.Nat.{_-_}
+use Prim.Native.Nat.{_-_, _≤_}
 use native.Mathlib.Omega.{arith}
-use mathlib.Core.Path.{sym, _∙_, _≡_}
+use mathlib.Core.Path.{_≡_, sym, ap, _∙_}
+use mathlib.Core.Bool.{Bool, true}
 use borrow.Author.Tests.{not-true, not-false}
 use lib.ListN.{length, take}
 use lib.Seq.{length-take-le}
 use borrow.Author.Needs.{needs}
+use Rattle.table.specs.declared.Form.the-variants.{Four}
+use Rattle.table.specs.declared.Shape.{Shape}
 use Rattle.table.specs.Limits.{holdersMost, tableWords}
+use Rattle.table.specs.Sizes.{sizesFit}
 use Rattle.table.specs.View.{shape}
 use Rattle.table.specs.laws.SizesLaws.{fits-told}
 use Rattle.console.specs.laws.SessionLaws.{opens, keeps-old}
 use Rattle.console.proofs.answer.open_table.Statement.{statement}
 use Rattle.console.proofs.answer.open_table.Tie as tie
-use Rattle.table.specs.declared.Form.the-variants.{Four}
 
-add-words : tie.Need-add-words
-add-words c = search needs
+-- the words of n cells
+counted : (c : tie.After-words) → c .words .result ≡ tableWords Four holdersMost (c .before .before .before .args .n)
+counted c = c .words .ensures ∙ ap (λ (s : Shape). tableWords (s .form) (s .holders) (s .cells)) (c .before .four .ensures)
 
-mul-words : tie.Need-mul-words
-mul-words c = search needs
+tested : (c : tie.After-fits2) (b : Bool) → c .fits2 .result ≡ b → sizesFit (shape Four holdersMost (c .before .before .before .before .args .n)) (c .before .words .result) ≡ b
+tested c b e = sym (ap (λ (s : Shape). sizesFit s (c .before .words .result)) (c .before .before .four .ensures)) ∙ sym (c .fits2 .ensures) ∙ e
 
-add-words-2 : tie.Need-add-words-2
-add-words-2 c = search needs
+-- past the test: there is room for them
+fit : (c : tie.Else1) →
+    let n = c .before .before .before .before .before .args .n in
+    sizesFit (shape Four holdersMost n) (c .before .before .words .result) ≡ true
+fit c = tested (c .before) true (not-false _ (c .if1 .left))
+
+within : (c : tie.Else1) → c .before .before .words .result ≤ length (c .before .before .before .before .before .args .table .now)
+within c =
+    let after-words = c .before .before in
+    let start = after-words .before .before .before in
+    let f = fits-told (shape Four holdersMost (start .args .n)) (after-words .words .result) (fit c) in
+    omega (arith, f .few, counted after-words, start .pre .0)
+
+four-requires : tie.Need-four-requires
+four-requires c κs = search needs
+
+words-requires : tie.Need-words-requires
+words-requires c κs = let e = c .four .ensures in (omega (arith, ap (λ (s : Shape). s .cells) e), omega (arith, ap (λ (s : Shape). s .holders) e))
 
 fits-requires : tie.Need-fits-requires
 fits-requires c κs = search needs
 
 returns : tie.Need-returns
 returns c =
-    let start = c .before .before .before in
-    keeps-old (start .args .table .now) _ _ (sym (c .before .fits2 .ensures) ∙ not-true _ (c .if1 .taken)) (start .pre .1)
+    let after-words = c .before .before in
+    let start = after-words .before .before .before in
+    keeps-old (start .args .table .now) _ _ _ (counted after-words) (tested (c .before) _ (not-true _ (c .if1 .taken))) (start .pre .1)
 
 sub-set-up : tie.Need-sub-set-up
 sub-set-up c = search needs
@@ -38,10 +59,7 @@ part-set-up-start : tie.Need-part-set-up-start
 part-set-up-start c = search needs
 
 part-set-up-end : tie.Need-part-set-up-end
-part-set-up-end c =
-    let start = c .before .before .before in
-    let f = fits-told (shape Four holdersMost (start .args .n)) (tableWords Four holdersMost (start .args .n)) (sym (c .before .fits2 .ensures) ∙ not-false _ (c .if1 .left)) in
-    omega (arith, f .few, start .pre .0)
+part-set-up-end c = within c
 
 set-up-requires : tie.Need-set-up-requires
 set-up-requires c κs = search needs
@@ -51,24 +69,23 @@ same-length c = search needs
 
 returns-2 : tie.Need-returns-2
 returns-2 c =
-    let else1 = c .before .before .before .before in
-    let start = else1 .before .before .before in
+    let after-set-up = c .before .before in
+    let else1 = after-set-up .before .before in
+    let after-words = else1 .before .before in
+    let start = after-words .before .before .before in
     let a = start .args in
-    let e = sym (else1 .before .fits2 .ensures) ∙ not-false _ (else1 .if1 .left) in
-    let w = tableWords Four holdersMost (a .n) in
-    let f = fits-told (shape Four holdersMost (a .n)) w e in
+    let w = after-words .words .result in
     let z : w - 0 ≡ w = omega arith in
-    let k : length (take (w - 0) (a .table .now)) ≡ w = length-take-le (w - 0) (a .table .now) (omega (arith, f .few, start .pre .0)) ∙ z in
-    opens (take (a .used) (a .table .now)) (take (w - 0) (a .table .now)) (c .before .before .set-up .last .0) _ (a .n) e k
-    (c .before .before .set-up .kept .0 ∙ k) (c .before .before .set-up .ensures)
+    let k : length (take (w - 0) (a .table .now)) ≡ w = length-take-le (w - 0) (a .table .now) (omega (arith, within else1)) ∙ z in
+    opens (take (a .used) (a .table .now)) (take (w - 0) (a .table .now)) (after-set-up .set-up .last .0) _ (a .n) w (counted after-words) (fit else1) k
+    (after-set-up .set-up .kept .0 ∙ k) (after-set-up .set-up .ensures)
 
 pub open-table-spec : {M : Type 1} → statement M
 open-table-spec =
     tie.close
     (tie.spec
-    add-words
-    mul-words
-    add-words-2
+    four-requires
+    words-requires
     fits-requires
     returns
     sub-set-up

@@ -1,7 +1,6 @@
 -- `table::Form::words` meets its contract.
-use mathlib.Core.Path.{_≡_, refl, sym, ap, ap₂, _∙_}
+use mathlib.Core.Path.{sym, ap, _∙_}
 use native.Mathlib.Omega.{arith}
-use Prim.Native.Nat.{ℕ}
 use mathlib.Core.Bool.{Bool}
 use Rattle.table.specs.Limits.{cellsIn}
 use borrow.Author.Needs.{needs}
