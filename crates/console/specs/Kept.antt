@@ -7,7 +7,8 @@ use Rattle.console.specs.declared.answer.Opened.{Opened}
 use Rattle.console.specs.declared.answer.Answered.{Answered}
 use Rattle.console.specs.declared.operate.Said.{Said}
 use Rattle.calls.specs.Run.{Ran}
-use Rattle.table.specs.Limits.{cellsMost, holdersMost, tableWords}
+use Rattle.table.specs.Limits.{cellsMost}
+use Rattle.table.specs.View.{four, wordCount}
 use Rattle.lines.specs.Numbers.{digitsMost}
 use Rattle.text.specs.Limits.{textMost}
 use Rattle.console.specs.Session.{Turn, opened, newWords, workMost}
@@ -15,7 +16,7 @@ use Rattle.table.specs.declared.Form.the-variants.{Four}
 
 -- what a session lends for each line: room for the largest table, of which some words are in use, work space, and room for a reply and for a text and its line feed
 pub record Lent (ts : List ℕ) (used : ℕ) (ws out texts : List ℕ) : Type 0 where
-  pub table : length ts ≡ tableWords Four holdersMost (cellsMost Four)
+  pub table : length ts ≡ wordCount (four (cellsMost Four))
   pub in-use : used ≤ length ts
   pub work : length ws ≡ workMost
   pub room : 4 * (digitsMost + 1) ≤ length out

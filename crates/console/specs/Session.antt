@@ -7,7 +7,8 @@ use lib.Dec.{eqb}
 use lib.ListN.{getD, replicate}
 use Rattle.answers.specs.Answers.{DONE}
 use Rattle.pool.specs.Pool.{frees}
-use Rattle.table.specs.Limits.{cellsMost, holdersMost, tableWords}
+use Rattle.table.specs.Limits.{cellsMost}
+use Rattle.table.specs.View.{four, wordCount}
 use Rattle.calls.specs.SetUp.{Given, setUp}
 use Rattle.calls.specs.Entry.{shown}
 use Rattle.calls.specs.Run.{Ran, ran}
@@ -42,7 +43,7 @@ told ts answer kind value = record { words = ts; printed = reply answer kind val
 
 -- NEW: words for n cells are set up; a refusal keeps the old ones
 abbrev pub opened : ℕ → Given
-opened n = setUp (replicate (tableWords Four holdersMost n) 0) n
+opened n = setUp (replicate (wordCount (four n)) 0) n
 
 abbrev pub newWords : List ℕ → Given → List ℕ
 newWords ts g = cond (eqb (g .answer) DONE) (g .table) ts

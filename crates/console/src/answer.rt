@@ -2,7 +2,8 @@
 ghost use mathlib.Core.Path.{_≡_};
 ghost use Prim.Native.Nat.{_*_, _+_, _≤_};
 ghost use lib.ListN.{length, take, drop};
-ghost use Rattle.table.specs.Limits.{cellsMost, holdersMost, tableWords};
+ghost use Rattle.table.specs.Limits.{cellsMost};
+ghost use Rattle.table.specs.View.{four, wordCount};
 ghost use Rattle.table.specs.declared.Form.the-variants.{Four};
 ghost use Rattle.lines.specs.Commands.{new, operation, reading, writing};
 ghost use Rattle.lines.specs.Numbers.{digitsMost};
@@ -53,7 +54,7 @@ fn ask(out: &mut [u8]) -> usize
 }
 
 fn open_table(table: &mut [u32], used: usize, n: u32) -> Opened
-    requires { ⌜ length (now table) ≡ tableWords Four holdersMost (cellsMost Four) ⌝ }
+    requires { ⌜ length (now table) ≡ wordCount (four (cellsMost Four)) ⌝ }
     requires { ⌜ used ≤ length (now table) ⌝ }
     ensures { λ r. ⌜ Opens (take used (now (table .entry))) n r (now (table .exit)) ⌝ }
 {
@@ -73,7 +74,7 @@ fn open_table(table: &mut [u32], used: usize, n: u32) -> Opened
 }
 
 fn do_new(table: &mut [u32], used: usize, out: &mut [u8], n: u32) -> Answered
-    requires { ⌜ (length (now table) ≡ tableWords Four holdersMost (cellsMost Four)) × (used ≤ length (now table)) ⌝ }
+    requires { ⌜ (length (now table) ≡ wordCount (four (cellsMost Four))) × (used ≤ length (now table)) ⌝ }
     requires { ⌜ 4 * (digitsMost + 1) ≤ length (now out) ⌝ }
     ensures { λ r. ⌜ Turns (does (take used (now (table .entry))) (new n)) r (now (table .exit)) (now (out .exit)) ⌝ }
 {

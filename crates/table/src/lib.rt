@@ -6,13 +6,11 @@ ghost use Rattle.pool.specs.Pool.{at, kindOf, elemOf, countOf, nextOf, holder};
 ghost use Rattle.table.specs.Fields.{field, putField};
 ghost use Rattle.pool.specs.Setters.{cell, putCell, putCount, putNext, putFree, putHolder};
 ghost use lib.ListN.{length, set};
-ghost use Rattle.table.specs.Limits.{packs, head, cellsMost, holdersFit, holdersMost, holdersTold, cellsIn};
-ghost use Rattle.table.specs.Limits.{tableWords};
-ghost use Rattle.table.specs.declared.Form.the-variants.{Four};
+ghost use Rattle.table.specs.Limits.{packs, head, cellsMost, holdersFit, holdersTold, cellsIn};
 ghost use Rattle.table.specs.Pack.{part, room, withPart};
 ghost use Rattle.table.specs.Sizes.{sizesFit, shapeOf, cleared};
 ghost use Rattle.table.specs.Blank.{headed, blankPool};
-ghost use Rattle.table.specs.View.{shape, holderCount, greatestCount, start, cellWord, storedTwo, view};
+ghost use Rattle.table.specs.View.{four, wordCount, holderCount, greatestCount, start, cellWord, storedTwo, view};
 ghost use Rattle.table.specs.View.{Table, IsCell, Shows};
 
 pub struct Cell(pub usize);
@@ -129,7 +127,7 @@ impl Shape {
 
     // n cells of four words each.
     pub fn four(n: usize) -> Shape
-        ensures { λ r. ⌜ r ≡ shape Four holdersMost n ⌝ }
+        ensures { λ r. ⌜ r ≡ four n ⌝ }
     {
         Shape {
             form: Form::Four,
@@ -156,7 +154,7 @@ impl Shape {
     // The words of a whole table.
     pub fn words(self) -> usize
         requires { ⌜ (self .cells < 2 ^ 32) × (self .holders ≤ 256) ⌝ }
-        ensures { λ r. ⌜ r ≡ tableWords (self .form) (self .holders) (self .cells) ⌝ }
+        ensures { λ r. ⌜ r ≡ wordCount self ⌝ }
     {
         let f = self.form;
         self.start() + f.words(self.cells)

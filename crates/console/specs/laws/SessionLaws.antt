@@ -7,11 +7,10 @@ use native.Mathlib.Omega.{arith}
 use lib.Dec.{ltb}
 use lib.ListN.{length, getD, take, drop, replicate, length-append, length-replicate}
 use lib.Seq.{sets-eq, length-sets, take-at}
-use Rattle.answers.specs.Answers.{DONE, TABLE-SIZE, WORK-SPACE, SCRIPT, RESULTS, UNSOUND}
+use Rattle.answers.specs.Answers.{TABLE-SIZE, WORK-SPACE, SCRIPT, RESULTS, UNSOUND}
 use Rattle.pool.specs.Script.{performed}
-use Rattle.table.specs.Limits.{holdersMost, tableWords}
 use Rattle.table.specs.Sizes.{sizesFit, cellsOf}
-use Rattle.table.specs.View.{shape}
+use Rattle.table.specs.View.{four, wordCount}
 use Rattle.setup.specs.laws.SetUpLaws.{accepted, refused}
 use Rattle.calls.specs.SetUp.{Given, setUp}
 use Rattle.calls.specs.Contracts.{SetsUp}
@@ -53,15 +52,15 @@ reply-short a k v f =
     )
 
 -- words of the right length are set up whatever they hold
-lent : (n : ℕ) → length {A = ℕ} (replicate (tableWords Four holdersMost n) 0) ≡ tableWords Four holdersMost n
-lent n = length-replicate (tableWords Four holdersMost n) 0
+lent : (n : ℕ) → length {A = ℕ} (replicate (wordCount (four n)) 0) ≡ wordCount (four n)
+lent n = length-replicate (wordCount (four n)) 0
 
 -- NEW sets up the front of the lent words
-pub opens : (old ts front rest : List ℕ) (n w : ℕ) {r : ℕ} → w ≡ tableWords Four holdersMost n → sizesFit (shape Four holdersMost n) w ≡ true → length ts ≡ w → length front ≡ w → SetsUp r front (setUp ts n)
+pub opens : (old ts front rest : List ℕ) (n w : ℕ) {r : ℕ} → w ≡ wordCount (four n) → sizesFit (four n) w ≡ true → length ts ≡ w → length front ≡ w → SetsUp r front (setUp ts n)
     → Opens old n (record { answer = r; used = w }) (front ++ rest)
 opens old ts front rest n w z e l m s =
-    let p = accepted Four ts n holdersMost (ap (sizesFit (shape Four holdersMost n)) l ∙ e) in
-    let q = accepted Four (replicate (tableWords Four holdersMost n) 0) n holdersMost (ap (sizesFit (shape Four holdersMost n)) (lent n ∙ sym z) ∙ e) in
+    let p = accepted Four ts n _ (ap (sizesFit (four n)) l ∙ e) in
+    let q = accepted Four (replicate (wordCount (four n)) 0) n _ (ap (sizesFit (four n)) (lent n ∙ sym z) ∙ e) in
     record {
       answer = s .answer ∙ ap (λ (g : Given). g .answer) (p ∙ sym q);
       words = take-at front rest w m ∙ s .table ∙ ap (λ (g : Given). g .table) p ∙ sym (ap (newWords old) q);
@@ -69,9 +68,9 @@ opens old ts front rest n w z e l m s =
     }
 
 -- or keeps the old ones
-pub keeps-old : (ts : List ℕ) (used n w : ℕ) → w ≡ tableWords Four holdersMost n → sizesFit (shape Four holdersMost n) w ≡ false → used ≤ length ts → Opens (take used ts) n (record { answer = TABLE-SIZE; used = used }) ts
+pub keeps-old : (ts : List ℕ) (used n w : ℕ) → w ≡ wordCount (four n) → sizesFit (four n) w ≡ false → used ≤ length ts → Opens (take used ts) n (record { answer = TABLE-SIZE; used = used }) ts
 keeps-old ts used n w z e l =
-    let q = refused Four (replicate (tableWords Four holdersMost n) 0) n holdersMost (ap (sizesFit (shape Four holdersMost n)) (lent n ∙ sym z) ∙ e) in
+    let q = refused Four (replicate (wordCount (four n)) 0) n _ (ap (sizesFit (four n)) (lent n ∙ sym z) ∙ e) in
     record { answer = sym (ap (λ (g : Given). g .answer) q); words = sym (ap (newWords (take used ts)) q); fits = l }
 
 -- the work space's words do not matter to what a run gives

@@ -5,9 +5,8 @@ use mathlib.Core.Bool.{false}
 use mathlib.Core.List.{List, [], _∷_, _++_}
 use Prim.Native.Nat.{ℕ}
 use native.Mathlib.Omega.{arith}
-use lib.ListN.{getD}
 use Rattle.answers.specs.Answers.{DONE, NULL, NO-ROOM}
-use Rattle.pool.specs.Pool.{Cell, nextOf, Walk, Chain}
+use Rattle.pool.specs.Pool.{Cell, nextOf, holder, Walk, Chain}
 use Rattle.pool.specs.Script.{DECAP, BORROW, Operation}
 use Rattle.calls.specs.Entry.{shown}
 use Rattle.calls.specs.Run.{operations, badScript, badResults}
@@ -47,7 +46,7 @@ decap a b = DECAP ∷ a ∷ b ∷ 0 ∷ []
 -- DECAP of a null list is refused, and PFA behind it is done all the same
 pub goes-on-refused : ScriptsStop Four goesOnRefused → ⊥
 unfolding computed
-goes-on-refused d = let e : _≡_ {A = ℕ} 1 0 = ap (λ (us : List ℕ). getD us 2 0) (stays (stopped goesOnRefused d (decap 0 1 ++ prefix 0 5) refl refl .1) refl) in omega arith
+goes-on-refused d = let e : _≡_ {A = ℕ} 1 0 = ap (λ (us : List ℕ). holder (shown Four us) 0) (stays (stopped goesOnRefused d (decap 0 1 ++ prefix 0 5) refl refl .1) refl) in omega arith
 
 -- DECAP of a null list is refused, and PFA before it is not done: its own rows do not say NULL
 pub undoes-all : ScriptsStop Four undoesAll → ⊥

@@ -13,8 +13,8 @@ use lib.ListN.{length, getD, set, replicate, drop, length-append, length-replica
 use borrow.Author.Tests.{eq-eqb, le-leb, lt-leb, leb-true, eqb-true}
 use lib.Seq.{drop-cons, set-at}
 use native.Mathlib.Numerals.{add-one}
-use Rattle.table.specs.Limits.{cellsMost, cellsTold, holdersFit, holdersTold, holdersMany, holdersMost, tableWords}
-use Rattle.table.specs.View.{shape, Table}
+use Rattle.table.specs.Limits.{cellsMost, cellsTold, holdersFit, holdersTold, holdersMany, holdersMost}
+use Rattle.table.specs.View.{shape, wordCount, Table}
 use Rattle.table.specs.Sizes.{sizesFit, cellsOf, shapeOf, cleared}
 use Rattle.table.specs.laws.ViewLaws.{numbers, is-table}
 
@@ -42,23 +42,23 @@ many s k a h = rw (le-leb 1 (s .cells) a, lt-leb (s .cells) (cellsMost (s .form)
 pub unheld : (s : Shape) (k : ℕ) → 1 ≤ s .cells → s .cells ≤ cellsMost (s .form) → holdersFit (s .form) (s .holders) ≡ false → sizesFit s k ≡ false
 unheld s k a b h = rw (le-leb 1 (s .cells) a, le-leb (s .cells) (cellsMost (s .form)) b, h)
 
-pub by-length : (s : Shape) (k : ℕ) → 1 ≤ s .cells → s .cells ≤ cellsMost (s .form) → holdersFit (s .form) (s .holders) ≡ true → sizesFit s k ≡ eqb k (tableWords (s .form) (s .holders) (s .cells))
+pub by-length : (s : Shape) (k : ℕ) → 1 ≤ s .cells → s .cells ≤ cellsMost (s .form) → holdersFit (s .form) (s .holders) ≡ true → sizesFit s k ≡ eqb k (wordCount s)
 by-length s k a b h = rw (le-leb 1 (s .cells) a, le-leb (s .cells) (cellsMost (s .form)) b, h)
 
-pub fit : (s : Shape) (k : ℕ) → 1 ≤ s .cells → s .cells ≤ cellsMost (s .form) → holdersFit (s .form) (s .holders) ≡ true → k ≡ tableWords (s .form) (s .holders) (s .cells) → sizesFit s k ≡ true
-fit s k a b h e = by-length s k a b h ∙ eq-eqb k (tableWords (s .form) (s .holders) (s .cells)) e
+pub fit : (s : Shape) (k : ℕ) → 1 ≤ s .cells → s .cells ≤ cellsMost (s .form) → holdersFit (s .form) (s .holders) ≡ true → k ≡ wordCount s → sizesFit s k ≡ true
+fit s k a b h e = by-length s k a b h ∙ eq-eqb k (wordCount s) e
 
 pub record Fits (s : Shape) (k : ℕ) : Type 0 where
   pub some : 1 ≤ s .cells
   pub few : s .cells ≤ cellsMost (s .form)
   pub held : holdersFit (s .form) (s .holders) ≡ true
-  pub long : k ≡ tableWords (s .form) (s .holders) (s .cells)
+  pub long : k ≡ wordCount s
 
 pub fits-told : (s : Shape) (k : ℕ) → sizesFit s k ≡ true → Fits s k
-fits-told s k h = go (leb 1 (s .cells)) (leb (s .cells) (cellsMost (s .form))) (holdersFit (s .form) (s .holders)) (eqb k (tableWords (s .form) (s .holders) (s .cells))) refl refl refl refl h
+fits-told s k h = go (leb 1 (s .cells)) (leb (s .cells) (cellsMost (s .form))) (holdersFit (s .form) (s .holders)) (eqb k (wordCount s)) refl refl refl refl h
   where
-    go : (a b c d : Bool) → leb 1 (s .cells) ≡ a → leb (s .cells) (cellsMost (s .form)) ≡ b → holdersFit (s .form) (s .holders) ≡ c → eqb k (tableWords (s .form) (s .holders) (s .cells)) ≡ d → (a && (b && (c && d))) ≡ true → Fits s k
-    go true true true true ea eb ec ed h = record { some = leb-true 1 (s .cells) ea; few = leb-true (s .cells) (cellsMost (s .form)) eb; held = ec; long = eqb-true k (tableWords (s .form) (s .holders) (s .cells)) ed }
+    go : (a b c d : Bool) → leb 1 (s .cells) ≡ a → leb (s .cells) (cellsMost (s .form)) ≡ b → holdersFit (s .form) (s .holders) ≡ c → eqb k (wordCount s) ≡ d → (a && (b && (c && d))) ≡ true → Fits s k
+    go true true true true ea eb ec ed h = record { some = leb-true 1 (s .cells) ea; few = leb-true (s .cells) (cellsMost (s .form)) eb; held = ec; long = eqb-true k (wordCount s) ed }
     go true true true false ea eb ec ed h = absurd (false≢true h)
     go true true false d ea eb ec ed h = absurd (false≢true h)
     go true false c d ea eb ec ed h = absurd (false≢true h)

@@ -13,13 +13,13 @@ use Rattle.table.specs.declared.Form.the-variants.{Four, Packed, Wide}
 use Rattle.table.specs.declared.Shape.{Shape}
 use Rattle.pool.specs.laws.Edit.{put-same, put-put}
 use Rattle.pool.specs.Pool.{Cell, blank, Pool, at, put, elemOf, holder}
-use Rattle.table.specs.Limits.{packs, head, cellsTold, holdersTold, holdersMany, cellsMost, cellsIn, tableWords}
+use Rattle.table.specs.Limits.{packs, head, cellsTold, holdersTold, holdersMany, cellsMost, cellsIn}
 use Rattle.table.specs.Tab.{tab}
 use Rattle.table.specs.laws.TabLaws.{length-tab, getD-tab, tab-same, tab-set}
 use Rattle.table.specs.Fields.{field, fitted, putField}
 use Rattle.pool.specs.Setters.{cell, celled, putCell, putFree, putHolder}
 use Rattle.table.specs.Pack.{part, room}
-use Rattle.table.specs.View.{holderCount, start, cellWord, storedTwo, cellOf, view, Table, IsCell, Shows}
+use Rattle.table.specs.View.{wordCount, holderCount, start, cellWord, storedTwo, cellOf, view, Table, IsCell, Shows}
 use Rattle.table.specs.laws.PutLaws.{Put, put-four, put-two}
 
 pub pool-path : {f f′ : ℕ} {h h′ : List ℕ} {c c′ : List Cell} → f ≡ f′ → h ≡ h′ → c ≡ c′ → _≡_ {A = Pool} (record { free = f; holders = h; cells = c }) (record { free = f′; holders = h′; cells = c′ })
@@ -81,7 +81,7 @@ small-elems s ws h (suc i) = go (decLt i (s .cells))
 
 -- a table is told by its words
 pub is-table : (s : Shape) (ws : List ℕ) → 1 ≤ s .cells → s .cells ≤ cellsMost (s .form) → 1 ≤ s .holders → s .holders ≤ holdersMany
-    → length ws ≡ tableWords (s .form) (s .holders) (s .cells) → cellsTold ws ≡ s .cells → holdersTold (s .form) ws ≡ s .holders → Table s ws
+    → length ws ≡ wordCount s → cellsTold ws ≡ s .cells → holdersTold (s .form) ws ≡ s .holders → Table s ws
 is-table s ws a b x y c d e =
     let m = numbers (s .form) (s .cells) b in
     record {

@@ -11,13 +11,13 @@ use mathlib.Core.List.{List, [], _∷_, _++_}
 use native.Mathlib.Omega.{arith}
 use borrow.Author.Tests.{eqb-true}
 use Rattle.pool.specs.Pool.{Cell, blank, Pool}
-use Rattle.table.specs.Limits.{packs, head, holdersFit, holdersTold, holdersMost, cellsIn, tableWords}
+use Rattle.table.specs.Limits.{packs, head, holdersFit, holdersTold, holdersMost, cellsIn}
 use Rattle.table.specs.Tab.{tab}
 use Rattle.table.specs.laws.TabLaws.{tab-same, tab-getD, getD-tab}
 use Rattle.table.specs.Fields.{field}
 use Rattle.table.specs.Pack.{part, packed}
 use Rattle.table.specs.laws.PackLaws.{part-packed, count-below, next-below}
-use Rattle.table.specs.View.{holderCount, start, cellWord, cellOf, view, spread, telling, words, Table, Shows}
+use Rattle.table.specs.View.{wordCount, holderCount, start, cellWord, cellOf, view, spread, telling, words, Table, Shows}
 use Rattle.table.specs.laws.ViewLaws.{pool-path, cell-path}
 use Rattle.table.specs.laws.FixedLaws.{view-fixes}
 use Rattle.table.specs.laws.SizesLaws.{Fits, fits-told, fits-table, table-fits}
@@ -113,7 +113,7 @@ module _ (s : Shape) (p : Pool) (eh : length (p .holders) ≡ holderCount s) (ec
   abbrev ws : List ℕ
   ws = s .cells ∷ p .free ∷ telling (s .form) (s .holders) rest
 
-  words-length : length ws ≡ tableWords (s .form) (s .holders) (s .cells)
+  words-length : length ws ≡ wordCount s
   words-length =
       let a : length rest ≡ length (p .holders) + length (spread (packs (s .form)) (p .cells)) = length-append (p .holders) (spread (packs (s .form)) (p .cells)) in
       let b : length (spread (packs (s .form)) (p .cells)) ≡ cellsIn (packs (s .form)) (s .cells) = spread-length (packs (s .form)) (p .cells) ∙ ap (cellsIn (packs (s .form))) ec in

@@ -7,34 +7,32 @@ use borrow.Author.Tests.{not-true, not-false}
 use lib.ListN.{length, take}
 use lib.Seq.{length-take-le}
 use borrow.Author.Needs.{needs}
-use Rattle.table.specs.declared.Form.the-variants.{Four}
 use Rattle.table.specs.declared.Shape.{Shape}
-use Rattle.table.specs.Limits.{holdersMost, tableWords}
 use Rattle.table.specs.Sizes.{sizesFit}
-use Rattle.table.specs.View.{shape}
+use Rattle.table.specs.View.{four, wordCount}
 use Rattle.table.specs.laws.SizesLaws.{fits-told}
 use Rattle.console.specs.laws.SessionLaws.{opens, keeps-old}
 use Rattle.console.proofs.answer.open_table.Statement.{statement}
 use Rattle.console.proofs.answer.open_table.Tie as tie
 
 -- the words of n cells
-counted : (c : tie.After-words) → c .words .result ≡ tableWords Four holdersMost (c .before .before .before .args .n)
-counted c = c .words .ensures ∙ ap (λ (s : Shape). tableWords (s .form) (s .holders) (s .cells)) (c .before .four .ensures)
+counted : (c : tie.After-words) → c .words .result ≡ wordCount (four (c .before .before .before .args .n))
+counted c = c .words .ensures ∙ ap wordCount (c .before .four .ensures)
 
-tested : (c : tie.After-fits2) (b : Bool) → c .fits2 .result ≡ b → sizesFit (shape Four holdersMost (c .before .before .before .before .args .n)) (c .before .words .result) ≡ b
+tested : (c : tie.After-fits2) (b : Bool) → c .fits2 .result ≡ b → sizesFit (four (c .before .before .before .before .args .n)) (c .before .words .result) ≡ b
 tested c b e = sym (ap (λ (s : Shape). sizesFit s (c .before .words .result)) (c .before .before .four .ensures)) ∙ sym (c .fits2 .ensures) ∙ e
 
 -- past the test: there is room for them
 fit : (c : tie.Else1) →
     let n = c .before .before .before .before .before .args .n in
-    sizesFit (shape Four holdersMost n) (c .before .before .words .result) ≡ true
+    sizesFit (four n) (c .before .before .words .result) ≡ true
 fit c = tested (c .before) true (not-false _ (c .if1 .left))
 
 within : (c : tie.Else1) → c .before .before .words .result ≤ length (c .before .before .before .before .before .args .table .now)
 within c =
     let after-words = c .before .before in
     let start = after-words .before .before .before in
-    let f = fits-told (shape Four holdersMost (start .args .n)) (after-words .words .result) (fit c) in
+    let f = fits-told (four (start .args .n)) (after-words .words .result) (fit c) in
     omega (arith, f .few, counted after-words, start .pre .0)
 
 four-requires : tie.Need-four-requires
