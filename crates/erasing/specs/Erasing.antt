@@ -38,7 +38,7 @@ pub record Does (s : Shape) (ws : List ℕ) (e : Erasing) (hs : List ℕ) (w : D
   pub is : state s ws e ≡ w
 
 -- from ws and e erasing ends, and each step finds what it asks
-pub record Ready (s : Shape) (ws : List ℕ) (e : Erasing) : Type 0 where
+pub record ErasingEnds (s : Shape) (ws : List ℕ) (e : Erasing) : Type 0 where
   pub turns : ℕ
   pub ends : Ends halted stepped (Fine (greatestCount s)) turns (state s ws e)
 
@@ -48,14 +48,15 @@ pub record Later (m : ℕ) (w v : Dropping) : Type 0 where
   pub fewer : (k : ℕ) (w₀ : Dropping) → Going halted stepped (Fine m) k w₀ w → steps halted stepped k v ≤ steps halted stepped k w
 
 -- us and f are where erasing from ws and e comes to an end
-pub record Follows (s : Shape) (ws : List ℕ) (e : Erasing) (us : List ℕ) (f : Erasing) : Type 0 where
+pub record AtAnEnd (s : Shape) (ws : List ℕ) (e : Erasing) (us : List ℕ) (f : Erasing) : Type 0 where
   pub table : Table s us
   pub held : view s us .holders ≡ view s ws .holders
   pub end : f .here ≡ 0
   pub later : Later (greatestCount s) (state s ws e) (state s us f)
 
-abbrev pub begun : Pool → ℕ → Dropping
-begun p x = record { free = p .free; cells = p .cells; here = x; waiting = 0; freed = 0 }
+-- the arrow to x is still to be dropped
+abbrev pub droppingAt : Pool → ℕ → Dropping
+droppingAt p x = record { free = p .free; cells = p .cells; here = x; waiting = 0; freed = 0 }
 
 -- enough turns
 abbrev pub most : Pool → ℕ

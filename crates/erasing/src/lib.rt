@@ -6,7 +6,7 @@ ghost use Rattle.pool.specs.Erase.{dropped, stepped};
 ghost use Rattle.pool.specs.Operations.{adv, erase};
 ghost use Rattle.pool.specs.Pool.{countOf, holder, Sound};
 ghost use Rattle.table.specs.View.{holderCount, greatestCount, view, Table, Shows};
-ghost use Rattle.erasing.specs.Erasing.{Fine, state, Does, Ready, Follows, Rooted, less};
+ghost use Rattle.erasing.specs.Erasing.{Fine, state, Does, ErasingEnds, AtAnEnd, Rooted, less};
 use table::Shape;
 
 // Where erasing stands: the cell whose arrow is to be dropped, or 0; the head of the waiting chain; the cells freed.
@@ -72,8 +72,8 @@ fn pop_waiting(s: Shape, t: &mut [u32], e: Erasing) -> Erasing
 // Along the successors, to an end.
 fn follow(s: Shape, t: &mut [u32], start: Erasing) -> Erasing
     requires { ⌜ Table s (now t) ⌝ }
-    requires { ⌜ Ready s (now t) start ⌝ }
-    ensures { λ r. ⌜ Follows s (now (t .entry)) start (now (t .exit)) r ⌝ }
+    requires { ⌜ ErasingEnds s (now t) start ⌝ }
+    ensures { λ r. ⌜ AtAnEnd s (now (t .entry)) start (now (t .exit)) r ⌝ }
 {
     let mut e = start;
     while e.here != 0 {
@@ -135,7 +135,7 @@ fn step_off(s: Shape, t: &mut [u32], a: usize, b: usize)
 }
 
 // ADV: a becomes its tail, and b its first element where that is a list; whoever else holds the old list keeps all of it.
-pub fn advance(s: Shape, t: &mut [u32], a: usize, b: usize)
+pub fn adv(s: Shape, t: &mut [u32], a: usize, b: usize)
     requires { ⌜ Table s (now t) ⌝ }
     requires { ⌜ (a < holderCount s) × (b < holderCount s) × (a ≢ b) ⌝ }
     requires { ⌜ Sound (view s (now t)) ⌝ }
@@ -145,7 +145,7 @@ pub fn advance(s: Shape, t: &mut [u32], a: usize, b: usize)
     let x = table::holder_of(s, t, a);
     if table::count_of(s, t, x) == 1 {
         // no other arrow: what is borrowed and erased again comes to DECAP
-        heads::behead(s, t, a, b);
+        heads::decap(s, t, a, b);
         return;
     }
     step_off(s, t, a, b);

@@ -1,15 +1,15 @@
-// What happens at the head of a list: an element put before it, taken off, told; the list borrowed. Each in constant time.
+// What happens at the head of a list, each in constant time: an element put before it, taken off, told; the list borrowed.
 ghost use mathlib.Core.Path.{_≡_};
 ghost use mathlib.Core.Logic.{_≢_};
 ghost use Prim.Native.Nat.{_<_};
 ghost use Rattle.pool.specs.Pool.{countOf, holder, Sound};
 ghost use Rattle.pool.specs.Operations.{pfa, pfl, decap, borrow};
-ghost use Rattle.heads.specs.Tells.{Tells};
+ghost use Rattle.heads.specs.FirstTold.{FirstTold};
 ghost use Rattle.table.specs.View.{holderCount, view, Table, Shows};
 use table::Shape;
 
 // PFA: atom v before the list of a.
-pub fn prefix_atom(s: Shape, t: &mut [u32], a: usize, v: u32)
+pub fn pfa(s: Shape, t: &mut [u32], a: usize, v: u32)
     requires { ⌜ Table s (now t) ⌝ }
     requires { ⌜ a < holderCount s ⌝ }
     requires { ⌜ Sound (view s (now t)) ⌝ }
@@ -22,7 +22,7 @@ pub fn prefix_atom(s: Shape, t: &mut [u32], a: usize, v: u32)
 }
 
 // PFL: the list of b, as one element, before the list of a; b becomes null.
-pub fn prefix_list(s: Shape, t: &mut [u32], a: usize, b: usize)
+pub fn pfl(s: Shape, t: &mut [u32], a: usize, b: usize)
     requires { ⌜ Table s (now t) ⌝ }
     requires { ⌜ (a < holderCount s) × (b < holderCount s) × (a ≢ b) ⌝ }
     requires { ⌜ Sound (view s (now t)) ⌝ }
@@ -37,7 +37,7 @@ pub fn prefix_list(s: Shape, t: &mut [u32], a: usize, b: usize)
 }
 
 // DECAP: the first cell of a is freed, and its arrows become those of a and b.
-pub fn behead(s: Shape, t: &mut [u32], a: usize, b: usize)
+pub fn decap(s: Shape, t: &mut [u32], a: usize, b: usize)
     requires { ⌜ Table s (now t) ⌝ }
     requires { ⌜ (a < holderCount s) × (b < holderCount s) × (a ≢ b) ⌝ }
     requires { ⌜ Sound (view s (now t)) ⌝ }
@@ -78,7 +78,7 @@ pub fn first(s: Shape, t: &[u32], a: usize) -> Told
     requires { ⌜ a < holderCount s ⌝ }
     requires { ⌜ Sound (view s (now t)) ⌝ }
     requires { ⌜ holder (view s (now t)) a ≢ 0 ⌝ }
-    ensures { λ r. ⌜ Tells (view s (now (t .entry))) a r ⌝ }
+    ensures { λ r. ⌜ FirstTold (view s (now (t .entry))) a r ⌝ }
 {
     let x = table::holder_of(s, t, a);
     let kind = table::kind_of(s, t, x);

@@ -43,7 +43,7 @@ fn copy(s: Shape, t: &mut [u32], x: usize) -> usize
     head
 }
 
-pub fn copy_inverted(s: Shape, t: &mut [u32], a: usize, b: usize)
+pub fn cinv(s: Shape, t: &mut [u32], a: usize, b: usize)
     requires { ⌜ Table s (now t) ⌝ }
     requires { ⌜ (a < holderCount s) × (b < holderCount s) × (a ≢ b) ⌝ }
     requires { ⌜ Sound (view s (now t)) ⌝ }

@@ -10,7 +10,7 @@ ghost use Rattle.table.specs.View.{holderCount, view, Table, Shows};
 use table::Shape;
 
 // The list of b after that of a, whose last cell is known from the walk that tested it.
-pub fn concatenate(s: Shape, t: &mut [u32], a: usize, b: usize, last: usize)
+pub fn conc(s: Shape, t: &mut [u32], a: usize, b: usize, last: usize)
     requires { ⌜ Table s (now t) ⌝ }
     requires { ⌜ (a < holderCount s) × (b < holderCount s) × (a ≢ b) ⌝ }
     requires { ⌜ Sound (view s (now t)) ⌝ }

@@ -23,7 +23,7 @@ pub fn adv(s: Shape, t: &mut [u32], a: usize, b: usize) -> Reply
         return Reply::Refused(Answer::OCCUPIED);
     }
     let e = heads::first(s, t, a);
-    erasing::advance(s, t, a, b);
+    erasing::adv(s, t, a, b);
     Reply::Done(e.kind, e.value)
 }
 

@@ -19,7 +19,7 @@ pub fn pfa(s: Shape, t: &mut [u32], a: usize, v: u32) -> Reply
     if table::free_head(s, t) == 0 {
         return Reply::Refused(Answer::NO_ROOM);
     }
-    heads::prefix_atom(s, t, a, v);
+    heads::pfa(s, t, a, v);
     Reply::Done(Kind::NOTHING, 0)
 }
 
@@ -32,7 +32,7 @@ pub fn pfl(s: Shape, t: &mut [u32], a: usize, b: usize) -> Reply
     if table::free_head(s, t) == 0 {
         return Reply::Refused(Answer::NO_ROOM);
     }
-    heads::prefix_list(s, t, a, b);
+    heads::pfl(s, t, a, b);
     Reply::Done(Kind::NOTHING, 0)
 }
 
@@ -53,7 +53,7 @@ pub fn decap(s: Shape, t: &mut [u32], a: usize, b: usize) -> Reply
         return Reply::Refused(Answer::SHARED);
     }
     let e = heads::first(s, t, a);
-    heads::behead(s, t, a, b);
+    heads::decap(s, t, a, b);
     Reply::Done(e.kind, e.value)
 }
 

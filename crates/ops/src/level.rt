@@ -19,7 +19,7 @@ pub fn inv(s: Shape, t: &mut [u32], a: usize) -> Reply
     if levels::walk::any_shared(s, t, a) {
         return Reply::Refused(Answer::SHARED);
     }
-    levels::invert::invert(s, t, a);
+    levels::turn::inv(s, t, a);
     Reply::Done(Kind::NOTHING, 0)
 }
 
@@ -35,7 +35,7 @@ pub fn cinv(s: Shape, t: &mut [u32], a: usize, b: usize) -> Reply
     if !levels::walk::fits(s, t, a) {
         return Reply::Refused(Answer::NO_ROOM);
     }
-    levels::copy::copy_inverted(s, t, a, b);
+    levels::copy::cinv(s, t, a, b);
     Reply::Done(Kind::NOTHING, 0)
 }
 
@@ -52,7 +52,7 @@ pub fn conc(s: Shape, t: &mut [u32], a: usize, b: usize) -> Reply
     if e.shared {
         return Reply::Refused(Answer::SHARED);
     }
-    levels::join::concatenate(s, t, a, b, e.last);
+    levels::join::conc(s, t, a, b, e.last);
     Reply::Done(Kind::NOTHING, 0)
 }
 

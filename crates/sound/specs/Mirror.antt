@@ -41,13 +41,13 @@ pub record Shown (n : ℕ) (ws us : List ℕ) (e : Peel) (st : Peeling) : Type 0
   pub shows : Mirrors n us e st
 
 -- no cell is at hand only where none waits
-pub record Ready (n : ℕ) (ws : List ℕ) (e : Peel) (st : Peeling) : Type 0 where
+pub record Refilled (n : ℕ) (ws : List ℕ) (e : Peel) (st : Peeling) : Type 0 where
   pub shows : Mirrors n ws e st
   pub rests : e .at ≡ 0 → st .stack ≡ []
 
 pub record Reached (n : ℕ) (ws us : List ℕ) (e : Peel) (st : Peeling) : Type 0 where
   pub within : Within n ws us
-  pub ready : Ready n us e st
+  pub refilled : Refilled n us e st
 
 -- the words that wait have room for the cell at hand
 pub record Room (n : ℕ) (ws : List ℕ) (e : Peel) : Type 0 where
@@ -57,7 +57,7 @@ pub record Room (n : ℕ) (ws : List ℕ) (e : Peel) : Type 0 where
   pub high : e .top ≤ n
   pub more : e .at ≢ 0 → e .top < n
 
-pub record Follows (n x : ℕ) (ws : List ℕ) (e : Peel) (us : List ℕ) (f : Peel) : Type 0 where
+pub record ArrowMet (n x : ℕ) (ws : List ℕ) (e : Peel) (us : List ℕ) (f : Peel) : Type 0 where
   pub within : Within n ws us
   pub shows : (st : Peeling) → Mirrors n ws e st → Mirrors n us f (meet x st)
 
@@ -67,7 +67,7 @@ pub record Stows (n : ℕ) (ws : List ℕ) (e : Peel) (us : List ℕ) (f : Peel)
   pub shows : (st : Peeling) → Mirrors n ws e st → Mirrors n us f st
 
 abbrev pub Refills : ℕ → List ℕ → Peel → Peel → Type 0
-Refills n ws e f = (st : Peeling) → Mirrors n ws e st → occ (st .stack) 0 ≡ 0 → Ready n ws f st
+Refills n ws e f = (st : Peeling) → Mirrors n ws e st → occ (st .stack) 0 ≡ 0 → Refilled n ws f st
 
 pub record Copied (n : ℕ) (cs : List Cell) (ws us : List ℕ) (r : ℕ) : Type 0 where
   pub within : Within n ws us

@@ -8,7 +8,7 @@ ghost use Rattle.pool.specs.Tally.{same};
 ghost use Rattle.pool.specs.Check.{chained, afterHolders};
 ghost use Rattle.table.specs.View.{view, Table};
 ghost use Rattle.sound.specs.Decided.{Decided, Examined};
-ghost use Rattle.sound.specs.Mirror.{Room, Follows, Stows, Refills, Counted, Copied, stateAt, Shown, Reached, Taking, ElementMet, Peeled};
+ghost use Rattle.sound.specs.Mirror.{Room, ArrowMet, Stows, Refills, Counted, Copied, stateAt, Shown, Reached, Taking, ElementMet, Peeled};
 use table::Shape;
 
 // What the work space does not say: whether all went well (1, else 0), the cell at hand (0: none), how many wait, and how many are
@@ -90,7 +90,7 @@ fn chain_holds(s: Shape, t: &[u32], free: usize) -> bool
 fn follow(n: usize, w: &mut [u32], x: usize, e: Peel) -> Peel
     requires { ⌜ n + n ≤ length (now w) ⌝ }
     requires { ⌜ e .at ≡ 0 ⌝ }
-    ensures { λ r. ⌜ Follows n x (now (w .entry)) e (now (w .exit)) r ⌝ }
+    ensures { λ r. ⌜ ArrowMet n x (now (w .entry)) e (now (w .exit)) r ⌝ }
 {
     if x == 0 {
         return e;

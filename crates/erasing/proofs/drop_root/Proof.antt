@@ -6,7 +6,7 @@ use Rattle.loops.specs.laws.LoopLaws.{begin, before, again, less, finish}
 use Rattle.pool.specs.Erase.{Dropping, stepped}
 use Rattle.table.specs.View.{greatestCount, view, Table}
 use Rattle.table.specs.laws.ViewLaws.{pool-path}
-use Rattle.erasing.specs.Erasing.{halted, Fine, state, begun, most}
+use Rattle.erasing.specs.Erasing.{halted, Fine, state, droppingAt, most}
 use Rattle.erasing.specs.laws.StepLaws.{halted-yes, halted-wait}
 use Rattle.erasing.specs.laws.Ends.{root-ends, is-dropped}
 use Rattle.erasing.proofs.drop_root.Statement.{statement}
@@ -15,7 +15,7 @@ use Rattle.erasing.proofs.drop_root.Tie as tie
 abbrev Inv-loop : tie.InvT-loop
 Inv-loop s t₀ x e₀ t e =
     Table s t × (view s t .holders ≡ view s t₀ .holders)
-    × Going halted stepped (Fine (greatestCount s)) (most (view s t₀)) (begun (view s t₀) x) (state s t e)
+    × Going halted stepped (Fine (greatestCount s)) (most (view s t₀)) (droppingAt (view s t₀) x) (state s t e)
 
 abbrev μ-loop : tie.MeasureT-loop
 μ-loop s t₀ x e₀ t e = steps halted stepped (most (view s t₀)) (state s t e)

@@ -25,7 +25,7 @@ use Rattle.pool.specs.Tally.{same, tally, occ}
 use Rattle.pool.specs.laws.TallyLaws.{same-of}
 use Rattle.pool.specs.laws.Visit.{at-end}
 use Rattle.pool.specs.Setters.{putHolder}
-use Rattle.erasing.specs.Erasing.{halted, Fine, begun, most, Rooted, less}
+use Rattle.erasing.specs.Erasing.{halted, Fine, droppingAt, most, Rooted, less}
 use Rattle.erasing.specs.laws.StepLaws.{halted-yes, halted-at, halted-wait}
 use Rattle.erasing.specs.laws.Counts.{step-low}
 
@@ -91,9 +91,9 @@ module _ (r : ℕ → ℕ) (bs : List Cell) where
       go ih (inl (e, g, q)) = record { turns = 0; runs = stop (halted-yes w e g); short = omega arith }
       go ih (inr (us, u, d)) = on (ih us u low′ (omega arith)) (ℕ-discrete (w .here) 0) (ℕ-discrete (w .waiting) 0)
 
-pub root-ends : (m : ℕ) (p : Pool) (x : ℕ) → Rooted m p x → Ends halted stepped (Fine m) (most p) (begun p x)
+pub root-ends : (m : ℕ) (p : Pool) (x : ℕ) → Rooted m p x → Ends halted stepped (Fine m) (most p) (droppingAt p x)
 unfolding Waits tally
-root-ends m p x h = ends (h .rest) (p .cells) m (most p) (begun p x) []
+root-ends m p x h = ends (h .rest) (p .cells) m (most p) (droppingAt p x) []
     (record {
       chained = refl;
       held = reroot (p .free) (p .cells) (λ c. same x c + h .rest c) none-aside (λ c. same x c + 0 + h .rest c) none-aside (h .held) (λ d n. omega arith) (λ d. refl);
@@ -104,9 +104,9 @@ root-ends m p x h = ends (h .rest) (p .cells) m (most p) (begun p x) []
     (h .counts) (omega arith)
 
 -- what the code's loop leaves
-pub is-dropped : (p : Pool) (x : ℕ) → run halted stepped (most p) (begun p x) ≡ dropped (p .free) (p .cells) x
+pub is-dropped : (p : Pool) (x : ℕ) → run halted stepped (most p) (droppingAt p x) ≡ dropped (p .free) (p .cells) x
 unfolding dropped
-is-dropped p x = joined (most p) (begun p x)
+is-dropped p x = joined (most p) (droppingAt p x)
 
 -- a holder of a sound pool is a root
 pub holder-rooted : (m : ℕ) (p : Pool) (h : ℕ) → Sound p → h < length (p .holders) → length (p .holders) + 2 * length (p .cells) ≤ m → Rooted m p (holder p h)

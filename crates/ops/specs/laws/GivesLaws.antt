@@ -7,7 +7,7 @@ use native.Mathlib.Omega.{arith}
 use package.borrow.Author.Tests.{ne-eqb}
 use lib.Dec.{eqb}
 use Rattle.answers.specs.Answers.{DONE}
-use Rattle.heads.specs.Tells.{Tells}
+use Rattle.heads.specs.FirstTold.{FirstTold}
 use Rattle.heads.specs.declared.Told.{Told}
 use Rattle.ops.specs.declared.Reply.{Reply}
 use Rattle.ops.specs.declared.Reply.the-variants.{Done, Refused}
@@ -30,7 +30,7 @@ unfolding reply poolAfter
 does p o e h q = record { table = h .table; is = rw e (h .is); told = rw e q }
 
 -- the first element as result words
-pub first-said : {e : Told} (p : Pool) (a : ℕ) (q : Pool) → Tells p a e → Done (e .kind) (e .value) ≡ said (tellsFirst p a q)
+pub first-said : {e : Told} (p : Pool) (a : ℕ) (q : Pool) → FirstTold p a e → Done (e .kind) (e .value) ≡ said (tellsFirst p a q)
 first-said p a q h = λ i. Done (h .kind i) (h .value i)
 
 -- CONC of a null b leaves the pool as it is

@@ -10,7 +10,7 @@ use Rattle.pool.specs.Pool.{Pool}
 use Rattle.pool.specs.Check.{meet, named, unmet, afterHolders}
 use Rattle.pool.specs.laws.CheckInv.{named-inv}
 use Rattle.sound.specs.declared.Peel.{Peel}
-use Rattle.sound.specs.Mirror.{below, onTop, Counted, Mirrors, Shown, Room, Follows, Stows}
+use Rattle.sound.specs.Mirror.{below, onTop, Counted, Mirrors, Shown, Room, ArrowMet, Stows}
 use Rattle.sound.specs.laws.MirrorLaws.{within-self, within-then}
 use Rattle.sound.specs.laws.RoomLaws.{room}
 
@@ -28,7 +28,7 @@ holders-start p n ws e q len k = rw q (record {
 })
 
 module _ (p : Pool) (n : ℕ) (ws us : List ℕ) (e : Peel) (h : ℕ) (len : length (p .cells) ≡ n) (few : n < 65536) (long : n + n ≤ length ws) (g : Meeting p n ws us e h) (l : h < length (p .holders))
-    (x : ℕ) (vs : List ℕ) (f : Peel) (xe : x ≡ getD (p .holders) h 0) (d : Follows n x us e vs f) where
+    (x : ℕ) (vs : List ℕ) (f : Peel) (xe : x ≡ getD (p .holders) h 0) (d : ArrowMet n x us e vs f) where
   met : Mirrors n vs f (named (suc h) (p .holders) (unmet (p .cells)))
   unfolding named
   met = subst (λ u. Mirrors n vs f (meet u (named h (p .holders) (unmet (p .cells))))) xe (d .shows (named h (p .holders) (unmet (p .cells))) (g .shown .shows))

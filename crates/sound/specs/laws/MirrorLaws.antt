@@ -14,7 +14,7 @@ use Rattle.pool.specs.Pool.{Cell, at, countOf, counted, setCount}
 use Rattle.pool.specs.Check.{Peeling, lowered, meet}
 use Rattle.pool.specs.laws.Edit.{put-length, put-same, put-other, at-past}
 use Rattle.sound.specs.declared.Peel.{Peel}
-use Rattle.sound.specs.Mirror.{below, onTop, Counted, Mirrors, Within, Room, Follows, Stows, Refills}
+use Rattle.sound.specs.Mirror.{below, onTop, Counted, Mirrors, Within, Room, ArrowMet, Stows, Refills}
 
 -- the words that wait
 
@@ -81,21 +81,21 @@ unfolding meet
 meet-as zero n st l e = absurd (omega arith)
 meet-as (suc i) n st l e = ap (lowered st (suc i)) e
 
-pub follow-null : (n x : ℕ) (ws : List ℕ) (e : Peel) → x ≡ 0 → Follows n x ws e ws e
+pub follow-null : (n x : ℕ) (ws : List ℕ) (e : Peel) → x ≡ 0 → ArrowMet n x ws e ws e
 unfolding meet
 follow-null n x ws e z = record { within = within-self n ws; shows = λ st m. subst (λ u. Mirrors n ws e (meet u st)) (sym z) m }
 
 abbrev failed : Peel → Peel
 failed e = record { ok = 0; at = 0; top = e .top; gone = e .gone }
 
-bad : (n x : ℕ) (ws : List ℕ) (e : Peel) → e .at ≡ 0 → 0 < x → ((st : Peeling) → Mirrors n ws e st → countOf (st .cells) x ≡ 0) → Follows n x ws e ws (failed e)
+bad : (n x : ℕ) (ws : List ℕ) (e : Peel) → e .at ≡ 0 → 0 < x → ((st : Peeling) → Mirrors n ws e st → countOf (st .cells) x ≡ 0) → ArrowMet n x ws e ws (failed e)
 unfolding lowered onTop
 bad n x ws e z l f = record {
   within = within-self n ws;
   shows = λ st m. rw (meet-as x 0 st l (f st m)) (record { ok = refl; gone = m .gone; stack = idle m z; size = m .size; counts = m .counts });
 }
 
-pub follow-far : (n x : ℕ) (ws : List ℕ) (e : Peel) → e .at ≡ 0 → n < x → Follows n x ws e ws (failed e)
+pub follow-far : (n x : ℕ) (ws : List ℕ) (e : Peel) → e .at ≡ 0 → n < x → ArrowMet n x ws e ws (failed e)
 follow-far n x ws e z l = bad n x ws e z (omega arith) (λ st m. ap (λ x. x .count) (at-past (st .cells) x (omega (arith, m .size))))
 
 -- cell x is the one at word x - 1
@@ -103,10 +103,10 @@ word : (n x : ℕ) (ws : List ℕ) (e : Peel) (st : Peeling) → 0 < x → x ≤
 word n zero ws e st l h m = absurd (omega arith)
 word n (suc i) ws e st l h m = let q : suc i - 1 ≡ i = omega arith in rw q (m .counts i h)
 
-pub follow-free : (n x : ℕ) (ws : List ℕ) (e : Peel) → e .at ≡ 0 → 0 < x → x ≤ n → getD ws (x - 1) 0 ≡ 0 → Follows n x ws e ws (failed e)
+pub follow-free : (n x : ℕ) (ws : List ℕ) (e : Peel) → e .at ≡ 0 → 0 < x → x ≤ n → getD ws (x - 1) 0 ≡ 0 → ArrowMet n x ws e ws (failed e)
 follow-free n x ws e z l h q = bad n x ws e z l (λ st m. sym (word n x ws e st l h m) ∙ q)
 
-pub follow-one : (n x : ℕ) (ws : List ℕ) (e : Peel) → 0 < x → x ≤ n → n + n ≤ length ws → 1 < getD ws (x - 1) 0 → Follows n x ws e (set ws (x - 1) (getD ws (x - 1) 0 - 1)) e
+pub follow-one : (n x : ℕ) (ws : List ℕ) (e : Peel) → 0 < x → x ≤ n → n + n ≤ length ws → 1 < getD ws (x - 1) 0 → ArrowMet n x ws e (set ws (x - 1) (getD ws (x - 1) 0 - 1)) e
 unfolding lowered
 follow-one n zero ws e l h long big = absurd (omega arith)
 follow-one n (suc i) ws e l h long big =
@@ -128,7 +128,7 @@ follow-one n (suc i) ws e l h long big =
         })
 
 pub follow-last : (n x : ℕ) (ws : List ℕ) (e : Peel) → e .at ≡ 0 → 0 < x → x ≤ n → n + n ≤ length ws → getD ws (x - 1) 0 ≡ 1
-    → Follows n x ws e (set ws (x - 1) (getD ws (x - 1) 0 - 1)) (record { ok = e .ok; at = x; top = e .top; gone = e .gone })
+    → ArrowMet n x ws e (set ws (x - 1) (getD ws (x - 1) 0 - 1)) (record { ok = e .ok; at = x; top = e .top; gone = e .gone })
 unfolding lowered onTop
 follow-last n zero ws e z l h long one = absurd (omega arith)
 follow-last n (suc i) ws e z l h long one =

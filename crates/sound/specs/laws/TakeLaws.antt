@@ -16,7 +16,7 @@ use Rattle.pool.specs.laws.CheckLaws.{pop-gone}
 use Rattle.table.specs.declared.Shape.{Shape}
 use Rattle.table.specs.View.{view, IsCell}
 use Rattle.sound.specs.declared.Peel.{Peel}
-use Rattle.sound.specs.Mirror.{below, onTop, Mirrors, Within, Reached, Room, Follows, Stows, Refills, stateAt, Taking, elementMet, ElementMet}
+use Rattle.sound.specs.Mirror.{below, onTop, Mirrors, Within, Reached, Room, ArrowMet, Stows, Refills, stateAt, Taking, elementMet, ElementMet}
 use Rattle.sound.specs.laws.MirrorLaws.{within-self, within-then}
 use Rattle.sound.specs.laws.RoomLaws.{held, at-cell, done-few, room, none-null, state-inv}
 
@@ -79,7 +79,7 @@ module _ (p : Pool) (n : ℕ) (ws : List ℕ) (e : Peel) (g : Taking p n ws e) w
     }
 
     -- a list
-    module _ (y : ℕ) (us : List ℕ) (f : Peel) (one : k ≡ 1) (ye : y ≡ elemOf (p .cells) (e .at)) (d : Follows n y ws (record { ok = b; at = 0; top = e .top; gone = e .gone + 1 }) us f) where
+    module _ (y : ℕ) (us : List ℕ) (f : Peel) (one : k ≡ 1) (ye : y ≡ elemOf (p .cells) (e .at)) (d : ArrowMet n y ws (record { ok = b; at = 0; top = e .top; gone = e .gone + 1 }) us f) where
       element-mirrors : Mirrors n us f (elementMet p n ws e)
       element-mirrors = subst (λ u. Mirrors n us f (meet u (taken cs st (e .at) xs))) (arrow-list (at cs (e .at)) k y ke one ye) (d .shows (taken cs st (e .at) xs) off-mirrors)
 
@@ -95,7 +95,7 @@ module _ (p : Pool) (n : ℕ) (ws : List ℕ) (e : Peel) (g : Taking p n ws e) w
       some-element vs r a = record { within = within-then (d .within) (a .within); none = a .none; shows = a .shows (elementMet p n ws e) element-mirrors }
 
   -- its successor met
-  module _ (us : List ℕ) (f : Peel) (m : ElementMet p n ws e us f) (x : ℕ) (zs : List ℕ) (r : Peel) (xe : x ≡ nextOf (p .cells) (e .at)) (d : Follows n x us f zs r) where
+  module _ (us : List ℕ) (f : Peel) (m : ElementMet p n ws e us f) (x : ℕ) (zs : List ℕ) (r : Peel) (xe : x ≡ nextOf (p .cells) (e .at)) (d : ArrowMet n x us f zs r) where
     next-mirrors : Mirrors n zs r (stateAt p (suc (e .gone)))
     unfolding turns popped pop
     next-mirrors =
@@ -113,14 +113,14 @@ module _ (p : Pool) (n : ℕ) (ws : List ℕ) (e : Peel) (g : Taking p n ws e) w
     pub took : (o : Peel) → Refills n zs r o → Reached n ws zs o (stateAt p (suc (e .gone)))
     took o q = record {
       within = next-within;
-      ready = q (stateAt p (suc (e .gone))) next-mirrors (none-null cs (occ (p .holders)) (λ d. 0) (stateAt p (suc (e .gone))) (state-inv p (suc (e .gone))));
+      refilled = q (stateAt p (suc (e .gone))) next-mirrors (none-null cs (occ (p .holders)) (λ d. 0) (stateAt p (suc (e .gone))) (state-inv p (suc (e .gone))));
     }
 
   -- one more is done
   pub one-more : (us : List ℕ) (r : Peel) → Reached n ws us r (stateAt p (suc (e .gone))) → r .gone ≡ suc (e .gone)
   unfolding turns popped
   one-more us r b =
-      b .ready .shows .gone ∙ ap (λ u. (pop cs u st) .gone) stacked ∙ pop-gone cs (e .at) xs st ∙ ap suc (sym (g .shows .gone))
+      b .refilled .shows .gone ∙ ap (λ u. (pop cs u st) .gone) stacked ∙ pop-gone cs (e .at) xs st ∙ ap suc (sym (g .shows .gone))
 
 pub hand-cell : (s : Shape) (ts ws : List ℕ) (e : Peel) → Taking (view s ts) (s .cells) ws e → IsCell s (e .at)
 hand-cell s ts ws e g = let i = hand-live (view s ts) (s .cells) ws e g in record { low = i .0; high = omega (arith, i .1, g .sized) }

@@ -63,8 +63,8 @@ first-requires c κs =
     let start = else1 .before .before .before .before in
     (start .pre .0, (start .pre .1 .0 .0, (start .pre .1 .1, filled else1)))
 
-advance-requires : tie.Need-advance-requires
-advance-requires c κs =
+adv-requires : tie.Need-adv-requires
+adv-requires c κs =
     let else2 = c .before .before .before in
     let else1 = else2 .before .before .before in
     let start = else1 .before .before .before .before in
@@ -82,7 +82,7 @@ returns-3 c v =
     let start = else1 .before .before .before .before in
     let p : Pool = view (start .args .s) (start .args .t .now) in
     does _ _ (is-done _ _ (opened start v) (ne-eqb _ 0 (filled else1)) (rw (eq-eqb _ 0 (vacant else2)) refl) refl (none-needed (frees (p .cells))))
-    (c .before .before .advance .ensures) (first-said _ _ (adv p (start .args .a) (start .args .b)) (after-first .first .ensures))
+    (c .before .before .adv .ensures) (first-said _ _ (adv p (start .args .a) (start .args .b)) (after-first .first .ensures))
 
 pub adv-spec : {M : Type 1} → statement M
 adv-spec =
@@ -95,6 +95,6 @@ adv-spec =
     same-length-2
     returns-2
     first-requires
-    advance-requires
+    adv-requires
     same-length-3
     returns-3)

@@ -91,8 +91,8 @@ first-requires c κs =
     let start = else1 .before .before .before .before in
     (start .pre .0, (start .pre .1 .0 .0, (start .pre .1 .1, filled else1)))
 
-behead-requires : tie.Need-behead-requires
-behead-requires c κs =
+decap-requires : tie.Need-decap-requires
+decap-requires c κs =
     let else3 = c .before .before .before in
     let else2 = else3 .before .before .before in
     let else1 = else2 .before .before .before in
@@ -114,7 +114,7 @@ returns-4 c v =
     does _ _
     (is-done _ _ (opened start v) (ne-eqb _ 0 (filled else1)) (rw (eq-eqb _ 0 (vacant else2)) refl) (rw (le-ltb 1 _ (own else3)) refl)
     (none-needed (frees (p .cells))))
-    (c .before .before .behead .ensures) (first-said _ _ (decap p (start .args .a) (start .args .b)) (after-first .first .ensures))
+    (c .before .before .decap .ensures) (first-said _ _ (decap p (start .args .a) (start .args .b)) (after-first .first .ensures))
 
 pub decap-spec : {M : Type 1} → statement M
 decap-spec =
@@ -130,6 +130,6 @@ decap-spec =
     same-length-3
     returns-3
     first-requires
-    behead-requires
+    decap-requires
     same-length-4
     returns-4)

@@ -37,8 +37,8 @@ returns c v =
     let l = full _ (start .pre .1 .1) (sym (c .before .free-head .ensures .0) ∙ c .if1 .taken) in
     refuses _ NO-ROOM (start .pre .0) (is-full _ _ (opened start v) refl refl refl l) (omega arith)
 
-prefix-list-requires : tie.Need-prefix-list-requires
-prefix-list-requires c κs =
+pfl-requires : tie.Need-pfl-requires
+pfl-requires c κs =
     let start = c .before .before .before .before .before in
     (start .pre .0, (start .pre .1 .0, (start .pre .1 .1, some-free (c .before))))
 
@@ -50,9 +50,9 @@ unfolding effect
 returns-2 c v =
     let else1 = c .before .before .before .before in
     let start = else1 .before .before .before .before in
-    does _ _ (is-done _ _ (opened start v) refl refl refl (spare _ (start .pre .1 .1) (some-free else1))) (c .before .before .prefix-list .ensures) refl
+    does _ _ (is-done _ _ (opened start v) refl refl refl (spare _ (start .pre .1 .1) (some-free else1))) (c .before .before .pfl .ensures) refl
 
 pub pfl-spec : {M : Type 1} → statement M
 pfl-spec =
     tie.close
-    (tie.spec free-head-requires same-length returns prefix-list-requires same-length-2 returns-2)
+    (tie.spec free-head-requires same-length returns pfl-requires same-length-2 returns-2)

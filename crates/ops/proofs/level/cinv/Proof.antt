@@ -59,8 +59,8 @@ returns-2 c v =
     refuses _ NO-ROOM (start .pre .0) (is-full _ _ (opened start v) refl (rw (eq-eqb _ 0 (vacant else1)) refl) refl
     (lt-ltb (frees (p .cells)) (lengthOf p (a .a)) (leb-false _ _ (sym (c .before .fits2 .ensures) ∙ not-true _ (c .if2 .taken))))) (omega arith)
 
-copy-inverted-requires : tie.Need-copy-inverted-requires
-copy-inverted-requires c κs =
+cinv-requires : tie.Need-cinv-requires
+cinv-requires c κs =
     let else1 = c .before .before .before .before in
     let start = else1 .before .before .before .before in
     (start .pre .0, (start .pre .1 .0, (start .pre .1 .1, (vacant else1, roomy (c .before)))))
@@ -75,7 +75,7 @@ returns-3 c v =
     let else1 = else2 .before .before .before in
     let start = else1 .before .before .before .before in
     does _ _ (is-done _ _ (opened start v) refl (rw (eq-eqb _ 0 (vacant else1)) refl) refl (le-ltb _ _ (roomy else2)))
-    (c .before .before .copy-inverted .ensures) refl
+    (c .before .before .cinv .ensures) refl
 
 pub cinv-spec : {M : Type 1} → statement M
 cinv-spec =
@@ -87,6 +87,6 @@ cinv-spec =
     fits-requires
     same-length-2
     returns-2
-    copy-inverted-requires
+    cinv-requires
     same-length-3
     returns-3)

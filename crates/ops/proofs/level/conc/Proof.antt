@@ -56,8 +56,8 @@ returns-2 c v =
     refuses _ SHARED (start .pre .0)
     (is-shared _ _ (opened start v) refl refl (rw (ne-eqb _ 0 (filled else1)) (sym (c .before .end-of .ensures .0) ∙ c .if2 .taken))) (omega arith)
 
-concatenate-requires : tie.Need-concatenate-requires
-concatenate-requires c κs =
+conc-requires : tie.Need-conc-requires
+conc-requires c κs =
     let else2 = c .before in
     let start = else2 .before .before .before .before .before .before .before in
     let e = else2 .before .end-of .ensures in
@@ -75,7 +75,7 @@ returns-3 c v =
     let own = sym (else2 .before .end-of .ensures .0) ∙ else2 .if2 .left in
     let p : Pool = view (start .args .s) (start .args .t .now) in
     does _ _ (is-done _ _ (opened start v) refl refl (rw (ne-eqb _ 0 (filled else1)) own) (none-needed (frees (p .cells))))
-    (c .before .before .concatenate .ensures) refl
+    (c .before .before .conc .ensures) refl
 
 pub conc-spec : {M : Type 1} → statement M
 conc-spec =
@@ -87,6 +87,6 @@ conc-spec =
     end-of-requires
     same-length-2
     returns-2
-    concatenate-requires
+    conc-requires
     same-length-3
     returns-3)

@@ -30,8 +30,8 @@ returns c b v =
     let start = c .before .before .before .before in
     refuses _ SHARED (start .pre .0) (is-shared _ _ (opened start b v) refl refl (sym (c .before .any-shared .ensures) ∙ c .if1 .taken)) (omega arith)
 
-invert-requires : tie.Need-invert-requires
-invert-requires c κs =
+inv-requires : tie.Need-inv-requires
+inv-requires c κs =
     let start = c .before .before .before .before .before in
     (start .pre .0, (start .pre .1 .0, (start .pre .1 .1, sym (c .before .before .any-shared .ensures) ∙ c .before .if1 .left)))
 
@@ -45,9 +45,9 @@ returns-2 c b v =
     let start = else1 .before .before .before .before in
     let own = sym (else1 .before .any-shared .ensures) ∙ else1 .if1 .left in
     let p : Pool = view (start .args .s) (start .args .t .now) in
-    does _ _ (is-done _ _ (opened start b v) refl refl own (none-needed (frees (p .cells)))) (c .before .before .invert .ensures) refl
+    does _ _ (is-done _ _ (opened start b v) refl refl own (none-needed (frees (p .cells)))) (c .before .before .inv .ensures) refl
 
 pub inv-spec : {M : Type 1} → statement M
 inv-spec =
     tie.close
-    (tie.spec any-shared-requires same-length returns invert-requires same-length-2 returns-2)
+    (tie.spec any-shared-requires same-length returns inv-requires same-length-2 returns-2)

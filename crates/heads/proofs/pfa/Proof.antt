@@ -1,12 +1,12 @@
--- `heads::prefix_atom` meets its contract.
+-- `heads::pfa` meets its contract.
 use native.Mathlib.Omega.{arith}
 use borrow.Author.Needs.{needs}
 use Rattle.cells.specs.laws.RangeLaws.{spare, holder-high}
 use Rattle.heads.specs.laws.HeadLaws.{is-pfa}
 use Rattle.pool.specs.Setters.{putHolder}
 use Rattle.table.specs.laws.ViewLaws.{after, said}
-use Rattle.heads.proofs.prefix_atom.Statement.{statement}
-use Rattle.heads.proofs.prefix_atom.Tie as tie
+use Rattle.heads.proofs.pfa.Statement.{statement}
+use Rattle.heads.proofs.pfa.Tie as tie
 
 holder-of-requires : tie.Need-holder-of-requires
 holder-of-requires c κs = search needs
@@ -42,7 +42,7 @@ returns c =
     said (after (putHolder (a .a) (k .result)) (k .ensures .1) (c .before .before .set-holder .ensures))
     (is-pfa _ _ _ _ _ (after-new-cell .before .before .holder-of .ensures .0) (k .ensures .0))
 
-pub prefix-atom-spec : {M : Type 1} → statement M
-prefix-atom-spec =
+pub pfa-spec : {M : Type 1} → statement M
+pfa-spec =
     tie.close
     (tie.spec holder-of-requires new-cell-requires set-holder-requires same-length returns)

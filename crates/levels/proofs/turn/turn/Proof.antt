@@ -1,4 +1,4 @@
--- `levels::invert::turn` meets its contract.
+-- `levels::turn::turn` meets its contract.
 use borrow.Author.Tests.{eq-eqb, ne-eqb}
 use mathlib.Core.Path.{_≡_, refl, ap, sym, _∙_}
 use native.Mathlib.Omega.{arith}
@@ -13,8 +13,8 @@ use Rattle.loops.specs.Loop.{steps, Going}
 use Rattle.loops.specs.laws.LoopLaws.{begin, before, again, less, finish}
 use Rattle.levels.specs.Turning.{Turning, turning, over, moved, Sure}
 use Rattle.levels.specs.laws.TurningLaws.{is-flip}
-use Rattle.levels.proofs.invert.turn.Statement.{statement}
-use Rattle.levels.proofs.invert.turn.Tie as tie
+use Rattle.levels.proofs.turn.turn.Statement.{statement}
+use Rattle.levels.proofs.turn.turn.Tie as tie
 
 abbrev Inv-loop : tie.InvT-loop
 Inv-loop s t₀ x left₀ turned₀ t left turned =

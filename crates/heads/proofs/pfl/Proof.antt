@@ -1,12 +1,12 @@
--- `heads::prefix_list` meets its contract.
+-- `heads::pfl` meets its contract.
 use native.Mathlib.Omega.{arith}
 use borrow.Author.Needs.{needs}
 use Rattle.cells.specs.laws.RangeLaws.{spare, holder-high}
 use Rattle.heads.specs.laws.HeadLaws.{is-pfl}
 use Rattle.pool.specs.Setters.{putHolder}
 use Rattle.table.specs.laws.ViewLaws.{after, said}
-use Rattle.heads.proofs.prefix_list.Statement.{statement}
-use Rattle.heads.proofs.prefix_list.Tie as tie
+use Rattle.heads.proofs.pfl.Statement.{statement}
+use Rattle.heads.proofs.pfl.Tie as tie
 
 holder-of-requires : tie.Need-holder-of-requires
 holder-of-requires c κs = search needs
@@ -55,8 +55,8 @@ returns c =
     (is-pfl _ _ _ _ _ _ (after-new-cell .before .before .before .before .holder-of .ensures .0) (after-new-cell .before .before .holder-of2 .ensures .0)
     (k .ensures .0))
 
-pub prefix-list-spec : {M : Type 1} → statement M
-prefix-list-spec =
+pub pfl-spec : {M : Type 1} → statement M
+pfl-spec =
     tie.close
     (tie.spec
     holder-of-requires

@@ -5,7 +5,7 @@ use Rattle.heads.specs.declared.Told.{Told}
 use Rattle.pool.specs.Pool.{Pool}
 use Rattle.pool.specs.Script.{tellsFirst}
 
-pub record Tells (p : Pool) (a : ℕ) (r : Told) : Type 0 where
+pub record FirstTold (p : Pool) (a : ℕ) (r : Told) : Type 0 where
   pub kind : r .kind ≡ tellsFirst p a p .kind
   pub value : r .value ≡ tellsFirst p a p .value
   -- which are all the kinds that a first element has

@@ -1,4 +1,4 @@
--- `heads::behead` meets its contract.
+-- `heads::decap` meets its contract.
 use mathlib.Core.Path.{ap}
 use native.Mathlib.Omega.{arith}
 use borrow.Author.Needs.{needs}
@@ -8,8 +8,8 @@ use Rattle.pool.specs.Setters.{putNext, putFree, putHolder}
 use Rattle.table.specs.View.{view}
 use Rattle.table.specs.laws.ViewLaws.{after, said}
 use Rattle.pool.specs.Pool.{Pool}
-use Rattle.heads.proofs.behead.Statement.{statement}
-use Rattle.heads.proofs.behead.Tie as tie
+use Rattle.heads.proofs.decap.Statement.{statement}
+use Rattle.heads.proofs.decap.Tie as tie
 
 -- the first cell of a
 head : (c : tie.After-holder-of) →
@@ -83,8 +83,8 @@ returns c =
     (after (λ (p : Pool). putFree (x .result) (putNext (x .result) (p .free) p)) (after-set-count .set-count .ensures) (after-release .release .ensures))
     (after-set-holder .set-holder .ensures)) (c .before .before .set-holder2 .ensures)) (is-decap _ _ _ _ (x .ensures .0) _ _ (s .ensures .0) (e .ensures))
 
-pub behead-spec : {M : Type 1} → statement M
-behead-spec =
+pub decap-spec : {M : Type 1} → statement M
+decap-spec =
     tie.close
     (tie.spec
     holder-of-requires

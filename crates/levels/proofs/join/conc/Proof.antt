@@ -1,4 +1,4 @@
--- `levels::join::concatenate` meets its contract.
+-- `levels::join::conc` meets its contract.
 use Prim.Native.Nat.{ℕ}
 use mathlib.Core.Path.{ap, ap₂, sym, _∙_}
 use mathlib.Core.Logic.{_≢_}
@@ -11,8 +11,8 @@ use Rattle.pool.specs.Setters.{putNext, putHolder}
 use Rattle.table.specs.View.{view}
 use Rattle.table.specs.laws.ViewLaws.{itself, after, said}
 use Rattle.levels.specs.laws.Joining.{join-none, join-null, join-last, last-cell}
-use Rattle.levels.proofs.join.concatenate.Statement.{statement}
-use Rattle.levels.proofs.join.concatenate.Tie as tie
+use Rattle.levels.proofs.join.conc.Statement.{statement}
+use Rattle.levels.proofs.join.conc.Tie as tie
 
 holder-of-requires : tie.Need-holder-of-requires
 holder-of-requires c κs = search needs
@@ -90,8 +90,8 @@ returns-3 c =
     let e = ap₂ (λ (x y : ℕ). putHolder (a .b) 0 (putNext x y p)) el ey in
     said (after (putHolder (a .b) 0) (after-set-next .set-next .ensures) (c .before .before .set-holder3 .ensures)) (e ∙ join-last _ _ _ na nb)
 
-pub concatenate-spec : {M : Type 1} → statement M
-concatenate-spec =
+pub conc-spec : {M : Type 1} → statement M
+conc-spec =
     tie.close
     (tie.spec
     holder-of-requires

@@ -1,4 +1,4 @@
--- `levels::invert::invert` meets its contract.
+-- `levels::turn::inv` meets its contract.
 use Prim.Native.Nat.{ℕ}
 use mathlib.Core.Path.{ap, _∙_}
 use native.Mathlib.Omega.{arith}
@@ -10,8 +10,8 @@ use Rattle.pool.specs.Setters.{celled, putHolder}
 use Rattle.table.specs.View.{view}
 use Rattle.table.specs.laws.ViewLaws.{after, said}
 use Rattle.levels.specs.laws.TurningLaws.{own-turns, head-top, is-inv}
-use Rattle.levels.proofs.invert.invert.Statement.{statement}
-use Rattle.levels.proofs.invert.invert.Tie as tie
+use Rattle.levels.proofs.turn.inv.Statement.{statement}
+use Rattle.levels.proofs.turn.inv.Tie as tie
 
 holder-of-requires : tie.Need-holder-of-requires
 holder-of-requires c κs = search needs
@@ -56,6 +56,6 @@ returns c =
     (ap (λ (z : ℕ). putHolder (a .a) z (celled (flip n cs (after-turn .before .before .holder-of .result) 0 .0) p)) (d .0)
     ∙ ap (λ (y : ℕ). putHolder (a .a) (flip n cs y 0 .1) (celled (flip n cs y 0 .0) p)) (after-turn .before .before .holder-of .ensures .0) ∙ is-inv _ _)
 
-pub invert-spec : {M : Type 1} → statement M
-invert-spec =
+pub inv-spec : {M : Type 1} → statement M
+inv-spec =
     tie.close (tie.spec holder-of-requires turn-requires set-holder-requires same-length returns)

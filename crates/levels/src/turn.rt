@@ -27,7 +27,7 @@ fn turn(s: Shape, t: &mut [u32], x: usize) -> usize
     turned
 }
 
-pub fn invert(s: Shape, t: &mut [u32], a: usize)
+pub fn inv(s: Shape, t: &mut [u32], a: usize)
     requires { ⌜ Table s (now t) ⌝ }
     requires { ⌜ a < holderCount s ⌝ }
     requires { ⌜ Sound (view s (now t)) ⌝ }

@@ -1,4 +1,4 @@
--- `erasing::advance` meets its contract.
+-- `erasing::adv` meets its contract.
 use mathlib.Core.Path.{_≡_, ap, sym, _∙_}
 use native.Mathlib.Omega.{arith}
 use borrow.Author.Needs.{needs}
@@ -8,8 +8,8 @@ use Rattle.pool.specs.laws.AdvanceWays.{adv-alone}
 use Rattle.pool.specs.Pool.{countOf, holder}
 use Rattle.table.specs.View.{view}
 use Rattle.table.specs.laws.ViewLaws.{said}
-use Rattle.erasing.proofs.advance.Statement.{statement}
-use Rattle.erasing.proofs.advance.Tie as tie
+use Rattle.erasing.proofs.adv.Statement.{statement}
+use Rattle.erasing.proofs.adv.Tie as tie
 
 -- the first count of a
 count : (c : tie.After-count-of) →
@@ -28,8 +28,8 @@ count-of-requires c κs =
     let start = c .before .before .before .before in
     (start .pre .0, rw (c .before .holder-of .ensures .0) (holder-head _ _ (start .pre .0) (start .pre .1 .1 .0) _ (start .pre .1 .1 .1 .1) .cell))
 
-behead-requires : tie.Need-behead-requires
-behead-requires c κs =
+decap-requires : tie.Need-decap-requires
+decap-requires c κs =
     let start = c .before .before .before .before .before .before .before in
     (start .pre .0, (start .pre .1 .0, (start .pre .1 .1 .0, (start .pre .1 .1 .1 .0, count (c .before .before) ∙ c .before .if1 .taken))))
 
@@ -40,7 +40,7 @@ returns : tie.Need-returns
 returns c =
     let then1 = c .before .before .before .before in
     let start = then1 .before .before .before .before .before .before in
-    said (c .before .before .behead .ensures)
+    said (c .before .before .decap .ensures)
     (sym
     (adv-alone _ _ _ (start .pre .1 .1 .0) (omega arith) (omega arith) (start .pre .1 .0 .2) (start .pre .1 .1 .1 .0)
     (holder-live _ _ (start .pre .1 .1 .0) (start .pre .1 .1 .1 .1)) (count (then1 .before) ∙ then1 .if1 .taken)))
@@ -57,13 +57,13 @@ same-length-2 c = search needs
 returns-2 : tie.Need-returns-2
 returns-2 c = search needs
 
-pub advance-spec : {M : Type 1} → statement M
-advance-spec =
+pub adv-spec : {M : Type 1} → statement M
+adv-spec =
     tie.close
     (tie.spec
     holder-of-requires
     count-of-requires
-    behead-requires
+    decap-requires
     same-length
     returns
     step-off-requires

@@ -1,4 +1,4 @@
--- `levels::copy::copy_inverted` meets its contract.
+-- `levels::copy::cinv` meets its contract.
 use Prim.Native.Nat.{ℕ}
 use mathlib.Core.Path.{ap, _∙_, subst}
 use native.Mathlib.Omega.{arith}
@@ -10,8 +10,8 @@ use Rattle.table.specs.View.{view}
 use Rattle.table.specs.laws.ViewLaws.{after, said}
 use Rattle.levels.specs.Copying.{made, placed, Copies}
 use Rattle.levels.specs.laws.CopyingLaws.{room-copies, head-top, is-cinv}
-use Rattle.levels.proofs.copy.copy_inverted.Statement.{statement}
-use Rattle.levels.proofs.copy.copy_inverted.Tie as tie
+use Rattle.levels.proofs.copy.cinv.Statement.{statement}
+use Rattle.levels.proofs.copy.cinv.Tie as tie
 
 holder-of-requires : tie.Need-holder-of-requires
 holder-of-requires c κs = search needs
@@ -60,6 +60,6 @@ returns c =
     (ap (λ (z : ℕ). putHolder (a .b) z (placed (made p (after-copy .before .before .holder-of .result)) p)) (d .0)
     ∙ ap (λ (y : ℕ). putHolder (a .b) (made p y .head) (placed (made p y) p)) ex ∙ is-cinv _ _ _)
 
-pub copy-inverted-spec : {M : Type 1} → statement M
-copy-inverted-spec =
+pub cinv-spec : {M : Type 1} → statement M
+cinv-spec =
     tie.close (tie.spec holder-of-requires copy-requires set-holder-requires same-length returns)
