@@ -7,6 +7,7 @@ ghost use Rattle.pool.specs.Script.{ADV, ERASE};
 ghost use Rattle.table.specs.View.{holderCount, view, Table};
 use super::Kind;
 use super::Reply;
+use super::tests;
 use answers::Answer;
 use table::Shape;
 
@@ -16,11 +17,9 @@ pub fn adv(s: Shape, t: &mut [u32], a: usize, b: usize) -> Reply
     requires { ⌜ Sound (view s (now t)) ⌝ }
     ensures { λ r. ⌜ ((v : ℕ) → Gives s (now (t .exit)) r (view s (now (t .entry))) (operation ADV a b v)) ⌝ }
 {
-    if table::holder_of(s, t, a) == 0 {
-        return Reply::Refused(Answer::NULL);
-    }
-    if table::holder_of(s, t, b) != 0 {
-        return Reply::Refused(Answer::OCCUPIED);
+    let refusal = tests::parting(s, t, a, b);
+    if refusal != Answer::DONE {
+        return Reply::Refused(refusal);
     }
     let e = heads::first(s, t, a);
     erasing::adv(s, t, a, b);

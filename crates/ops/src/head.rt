@@ -7,6 +7,7 @@ ghost use Rattle.pool.specs.Script.{PFA, PFL, DECAP, BORROW, FIRST};
 ghost use Rattle.table.specs.View.{holderCount, view, Table};
 use super::Kind;
 use super::Reply;
+use super::tests;
 use answers::Answer;
 use table::Shape;
 
@@ -16,7 +17,7 @@ pub fn pfa(s: Shape, t: &mut [u32], a: usize, v: u32) -> Reply
     requires { ⌜ Sound (view s (now t)) ⌝ }
     ensures { λ r. ⌜ ((b : ℕ) → Gives s (now (t .exit)) r (view s (now (t .entry))) (operation PFA a b v)) ⌝ }
 {
-    if table::free_head(s, t) == 0 {
+    if tests::is_full(s, t) {
         return Reply::Refused(Answer::NO_ROOM);
     }
     heads::pfa(s, t, a, v);
@@ -29,7 +30,7 @@ pub fn pfl(s: Shape, t: &mut [u32], a: usize, b: usize) -> Reply
     requires { ⌜ Sound (view s (now t)) ⌝ }
     ensures { λ r. ⌜ ((v : ℕ) → Gives s (now (t .exit)) r (view s (now (t .entry))) (operation PFL a b v)) ⌝ }
 {
-    if table::free_head(s, t) == 0 {
+    if tests::is_full(s, t) {
         return Reply::Refused(Answer::NO_ROOM);
     }
     heads::pfl(s, t, a, b);
@@ -42,13 +43,11 @@ pub fn decap(s: Shape, t: &mut [u32], a: usize, b: usize) -> Reply
     requires { ⌜ Sound (view s (now t)) ⌝ }
     ensures { λ r. ⌜ ((v : ℕ) → Gives s (now (t .exit)) r (view s (now (t .entry))) (operation DECAP a b v)) ⌝ }
 {
+    let refusal = tests::parting(s, t, a, b);
+    if refusal != Answer::DONE {
+        return Reply::Refused(refusal);
+    }
     let x = table::holder_of(s, t, a);
-    if x == 0 {
-        return Reply::Refused(Answer::NULL);
-    }
-    if table::holder_of(s, t, b) != 0 {
-        return Reply::Refused(Answer::OCCUPIED);
-    }
     if table::count_of(s, t, x) > 1 {
         return Reply::Refused(Answer::SHARED);
     }
@@ -63,7 +62,7 @@ pub fn borrow(s: Shape, t: &mut [u32], a: usize, b: usize) -> Reply
     requires { ⌜ Sound (view s (now t)) ⌝ }
     ensures { λ r. ⌜ ((v : ℕ) → Gives s (now (t .exit)) r (view s (now (t .entry))) (operation BORROW a b v)) ⌝ }
 {
-    if table::holder_of(s, t, b) != 0 {
+    if tests::is_occupied(s, t, b) {
         return Reply::Refused(Answer::OCCUPIED);
     }
     heads::borrow(s, t, a, b);
@@ -76,7 +75,7 @@ pub fn first(s: Shape, t: &mut [u32], a: usize) -> Reply
     requires { ⌜ Sound (view s (now t)) ⌝ }
     ensures { λ r. ⌜ ((b v : ℕ) → Gives s (now (t .exit)) r (view s (now (t .entry))) (operation FIRST a b v)) ⌝ }
 {
-    if table::holder_of(s, t, a) == 0 {
+    if tests::is_null(s, t, a) {
         return Reply::Refused(Answer::NULL);
     }
     let e = heads::first(s, t, a);

@@ -7,6 +7,7 @@ ghost use Rattle.pool.specs.Script.{INV, CINV, CONC, LENGTH};
 ghost use Rattle.table.specs.View.{holderCount, view, Table};
 use super::Kind;
 use super::Reply;
+use super::tests;
 use answers::Answer;
 use table::Shape;
 
@@ -29,7 +30,7 @@ pub fn cinv(s: Shape, t: &mut [u32], a: usize, b: usize) -> Reply
     requires { ⌜ Sound (view s (now t)) ⌝ }
     ensures { λ r. ⌜ ((v : ℕ) → Gives s (now (t .exit)) r (view s (now (t .entry))) (operation CINV a b v)) ⌝ }
 {
-    if table::holder_of(s, t, b) != 0 {
+    if tests::is_occupied(s, t, b) {
         return Reply::Refused(Answer::OCCUPIED);
     }
     if !levels::walk::fits(s, t, a) {
@@ -45,7 +46,7 @@ pub fn conc(s: Shape, t: &mut [u32], a: usize, b: usize) -> Reply
     requires { ⌜ Sound (view s (now t)) ⌝ }
     ensures { λ r. ⌜ ((v : ℕ) → Gives s (now (t .exit)) r (view s (now (t .entry))) (operation CONC a b v)) ⌝ }
 {
-    if table::holder_of(s, t, b) == 0 {
+    if tests::is_null(s, t, b) {
         return Reply::Done(Kind::NOTHING, 0);
     }
     let e = levels::walk::end_of(s, t, a);

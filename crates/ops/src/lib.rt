@@ -13,6 +13,7 @@ ghost use Rattle.table.specs.View.{holderCount, view, Table};
 pub mod drop;
 pub mod head;
 pub mod level;
+pub mod tests;
 
 use answers::Answer;
 use answers::Code;

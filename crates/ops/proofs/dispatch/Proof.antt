@@ -1,14 +1,10 @@
 -- `ops::dispatch` meets its contract.
 use borrow.Author.Needs.{needs}
-use Prim.Native.Nat.{_<_}
 use mathlib.Core.Path.{_≡_, ap}
-use mathlib.Core.Logic.{_≢_}
 use mathlib.Core.Bool.{true}
-use Rattle.pool.specs.Pool.{Sound}
 use Rattle.pool.specs.Script.{usesB, Operation}
-use Rattle.table.specs.View.{holderCount, view, Table}
 use Rattle.ops.specs.Replies.{operation}
-use Rattle.ops.specs.laws.WordLaws.{in-one, in-two, code-range, above, just}
+use Rattle.ops.specs.laws.WordLaws.{OnOne, OnTwo, on-one, on-two, code-range, above, just}
 use Rattle.ops.proofs.dispatch.Statement.{statement}
 use Rattle.ops.proofs.dispatch.Tie as tie
 
@@ -16,16 +12,11 @@ use Rattle.ops.proofs.dispatch.Tie as tie
 abbrev asked : tie.Start → Operation
 asked start = operation (start .args .code) (start .args .a) (start .args .b) (start .args .v)
 
-one : (start : tie.Start) →
-    let a = start .args in
-    Table (a .s) (a .t .now) × ((a .a < holderCount (a .s)) × Sound (view (a .s) (a .t .now)))
-one start = (start .pre .0, (in-one (start .pre .0) (asked start) (start .pre .1 .1), start .pre .1 .0))
+one : (start : tie.Start) → OnOne (start .args .s) (start .args .t .now) (start .args .a)
+one start = on-one (start .pre .0) (start .pre .1 .0) (asked start) (start .pre .1 .1)
 
-two : (start : tie.Start) →
-    usesB (start .args .code) ≡ true
-    → let a = start .args in Table (a .s) (a .t .now)
-    × (((a .a < holderCount (a .s)) × (a .b < holderCount (a .s)) × (a .a ≢ a .b)) × Sound (view (a .s) (a .t .now)))
-two start u = (start .pre .0, (in-two (start .pre .0) (asked start) (start .pre .1 .1) u, start .pre .1 .0))
+two : (start : tie.Start) → usesB (start .args .code) ≡ true → OnTwo (start .args .s) (start .args .t .now) (start .args .a) (start .args .b)
+two start u = on-two (start .pre .0) (start .pre .1 .0) (asked start) (start .pre .1 .1) u
 
 pfa-requires : tie.Need-pfa-requires
 pfa-requires c κs = one (c .before .before .before)

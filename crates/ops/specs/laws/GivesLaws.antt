@@ -30,8 +30,8 @@ unfolding reply poolAfter
 does p o e h q = record { table = h .table; is = rw e (h .is); told = rw e q }
 
 -- the first element as result words
-pub first-said : {e : Told} (p : Pool) (a : ℕ) (q : Pool) → FirstTold p a e → Done (e .kind) (e .value) ≡ said (tellsFirst p a q)
-first-said p a q h = λ i. Done (h .kind i) (h .value i)
+pub first-said : {e : Told} (p : Pool) (a : ℕ) → FirstTold p a e → Done (e .kind) (e .value) ≡ said (tellsFirst p a p)
+first-said p a h = λ i. Done (h .kind i) (h .value i)
 
 -- CONC of a null b leaves the pool as it is
 pub conc-null : (p : Pool) (a b : ℕ) → holder p b ≡ 0 → conc p a b ≡ p

@@ -11,7 +11,7 @@ use lib.ListN.{length}
 use Rattle.answers.specs.Answers.{DONE, CODE, HOLDER, SAME}
 use Rattle.ops.specs.Tests.{early}
 use Rattle.pool.specs.laws.CheckInv.{and-both}
-use Rattle.pool.specs.Pool.{Pool}
+use Rattle.pool.specs.Pool.{Pool, Sound}
 use Rattle.pool.specs.Script.{PFA, LENGTH, Operation, usesB, badCode, badHolder, sameHolder, refusal}
 use Rattle.pool.specs.laws.ScriptLaws.{Opened, not-refused, a-holder, b-holder}
 use Rattle.table.specs.View.{holderCount, view, Table}
@@ -65,27 +65,38 @@ module _ (p : Pool) (o : Operation) where
       let (within, e8) = not-refused (badHolder p o) HOLDER _ (omega arith) e7 in
       record { coded = coded; within = within; apart = not-refused (sameHolder o) SAME DONE (omega arith) e8 .0 }
 
--- the words are in order where one holder is used, and where two are
-module _ {s : Shape} {ws : List ℕ} (t : Table s ws) (o : Operation) (coded : badCode o ≡ false) (la : o .a < holderCount s) where
-  pub one : usesB (o .code) ≡ false → Opened (view s ws) o
-  one u = record { coded = coded; within = rw (lt-leb (length (view s ws .holders)) (o .a) (omega (arith, t .held)), u) refl; apart = rw u refl }
+-- what an operation asks that uses one holder, and two
+abbrev pub OnOne : Shape → List ℕ → ℕ → Type 0
+OnOne s ws a = Table s ws × ((a < holderCount s) × Sound (view s ws))
 
-  pub two : usesB (o .code) ≡ true → o .b < holderCount s → o .a ≢ o .b → Opened (view s ws) o
-  two u lb ab = record {
+abbrev pub OnTwo : Shape → List ℕ → ℕ → ℕ → Type 0
+OnTwo s ws a b = Table s ws × (((a < holderCount s) × (b < holderCount s) × (a ≢ b)) × Sound (view s ws))
+
+-- its words are in order
+module _ {s : Shape} {ws : List ℕ} (o : Operation) (coded : badCode o ≡ false) where
+  pub one : OnOne s ws (o .a) → usesB (o .code) ≡ false → Opened (view s ws) o
+  one (t, (la, k)) u = record { coded = coded; within = rw (lt-leb (length (view s ws .holders)) (o .a) (omega (arith, t .held)), u) refl; apart = rw u refl }
+
+  pub two : OnTwo s ws (o .a) (o .b) → usesB (o .code) ≡ true → Opened (view s ws) o
+  two (t, ((la, lb, ab), k)) u = record {
     coded = coded;
-    within = rw (lt-leb (length (view s ws .holders)) (o .a) (omega (arith, t .held)), u, lt-leb (length (view s ws .holders)) (o .b) (omega (arith, t .held))) refl;
+    within = rw (
+      lt-leb (length (view s ws .holders)) (o .a) (omega (arith, t .held)),
+      u,
+      lt-leb (length (view s ws .holders)) (o .b) (omega (arith, t .held)),
+    ) refl;
     apart = rw (u, ne-eqb (o .a) (o .b) ab) refl;
   }
 
 -- and back
-module _ {s : Shape} {ws : List ℕ} (t : Table s ws) (o : Operation) (h : Opened (view s ws) o) where
-  pub in-one : o .a < holderCount s
-  in-one = omega (arith, a-holder (view s ws) o h, t .held)
+module _ {s : Shape} {ws : List ℕ} (t : Table s ws) (k : Sound (view s ws)) (o : Operation) (h : Opened (view s ws) o) where
+  pub on-one : OnOne s ws (o .a)
+  on-one = (t, (omega (arith, a-holder (view s ws) o h, t .held), k))
 
-  pub in-two : usesB (o .code) ≡ true → (o .a < holderCount s) × (o .b < holderCount s) × (o .a ≢ o .b)
-  in-two u =
+  pub on-two : usesB (o .code) ≡ true → OnTwo s ws (o .a) (o .b)
+  on-two u =
       let (lb, ab) = b-holder (view s ws) o h u in
-      (in-one, omega (arith, t .held), ab)
+      (t, ((on-one .1 .0, omega (arith, t .held), ab), k))
 
 pub code-range : (o : Operation) → badCode o ≡ false → (PFA ≤ o .code) × (o .code ≤ LENGTH)
 code-range o e =

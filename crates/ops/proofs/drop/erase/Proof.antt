@@ -4,9 +4,9 @@ use native.Mathlib.Omega.{arith}
 use borrow.Author.Needs.{needs}
 use Rattle.ops.specs.Replies.{operation}
 use Rattle.ops.specs.laws.GivesLaws.{does}
-use Rattle.ops.specs.laws.TestLaws.{is-done, none-needed}
+use Rattle.ops.specs.laws.TestLaws.{needs-none}
 use Rattle.ops.specs.laws.WordLaws.{one}
-use Rattle.pool.specs.Pool.{Pool, frees}
+use Rattle.pool.specs.Pool.{Pool}
 use Rattle.pool.specs.Script.{ERASE, Operation, effect}
 use Rattle.table.specs.View.{view}
 use Rattle.ops.specs.laws.Freed.{freed-few}
@@ -40,7 +40,7 @@ returns c = λ b v.
     let a = start .args in
     let p : Pool = view (a .s) (a .t .now) in
     let o : Operation = operation ERASE (a .a) b v in
-    does p o (is-done p o (one (start .pre .0) o refl (start .pre .1 .0) refl) refl refl refl (none-needed (frees (p .cells))))
+    does p o (needs-none p o (one o refl (start .pre) refl) refl refl refl refl)
     (c .before .before .erase .ensures .1) (ap (Done 2) (c .before .before .erase .ensures .0))
 
 pub erase-spec : {M : Type 1} → statement M

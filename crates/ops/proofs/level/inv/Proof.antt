@@ -2,12 +2,11 @@
 use mathlib.Core.Path.{refl, sym, _∙_}
 use Prim.Native.Nat.{ℕ}
 use native.Mathlib.Omega.{arith}
-use Rattle.pool.specs.Pool.{Pool, frees}
 use borrow.Author.Needs.{needs}
 use Rattle.answers.specs.Answers.{SHARED}
 use Rattle.ops.specs.Replies.{operation}
 use Rattle.ops.specs.laws.GivesLaws.{refuses, does}
-use Rattle.ops.specs.laws.TestLaws.{is-shared, is-done, none-needed}
+use Rattle.ops.specs.laws.TestLaws.{says-shared, needs-none}
 use Rattle.pool.specs.laws.ScriptLaws.{Opened}
 use Rattle.ops.specs.laws.WordLaws.{one}
 use Rattle.pool.specs.Script.{INV, effect}
@@ -17,7 +16,7 @@ use Rattle.ops.proofs.level.inv.Tie as tie
 
 -- the words are in order
 opened : (start : tie.Start) (b v : ℕ) → Opened (view (start .args .s) (start .args .t .now)) (operation INV (start .args .a) b v)
-opened start b v = one (start .pre .0) _ refl (start .pre .1 .0) refl
+opened start b v = one _ refl (start .pre) refl
 
 any-shared-requires : tie.Need-any-shared-requires
 any-shared-requires c κs = search needs
@@ -28,7 +27,7 @@ same-length c = search needs
 returns : tie.Need-returns
 returns c b v =
     let start = c .before .before .before .before in
-    refuses _ SHARED (start .pre .0) (is-shared _ _ (opened start b v) refl refl (sym (c .before .any-shared .ensures) ∙ c .if1 .taken)) (omega arith)
+    refuses _ SHARED (start .pre .0) (says-shared _ _ (opened start b v) refl refl (sym (c .before .any-shared .ensures) ∙ c .if1 .taken)) (omega arith)
 
 inv-requires : tie.Need-inv-requires
 inv-requires c κs =
@@ -44,8 +43,7 @@ returns-2 c b v =
     let else1 = c .before .before .before .before in
     let start = else1 .before .before .before .before in
     let own = sym (else1 .before .any-shared .ensures) ∙ else1 .if1 .left in
-    let p : Pool = view (start .args .s) (start .args .t .now) in
-    does _ _ (is-done _ _ (opened start b v) refl refl own (none-needed (frees (p .cells)))) (c .before .before .inv .ensures) refl
+    does _ _ (needs-none _ _ (opened start b v) refl refl own refl) (c .before .before .inv .ensures) refl
 
 pub inv-spec : {M : Type 1} → statement M
 inv-spec =

@@ -3,10 +3,10 @@ use mathlib.Core.Path.{refl, ap}
 use borrow.Author.Needs.{needs}
 use Rattle.ops.specs.Replies.{operation}
 use Rattle.ops.specs.laws.GivesLaws.{does}
-use Rattle.ops.specs.laws.TestLaws.{is-done, none-needed}
+use Rattle.ops.specs.laws.TestLaws.{needs-none}
 use Rattle.ops.specs.laws.WordLaws.{one}
 use Rattle.table.specs.laws.ViewLaws.{itself}
-use Rattle.pool.specs.Pool.{Pool, frees}
+use Rattle.pool.specs.Pool.{Pool}
 use Rattle.pool.specs.Script.{LENGTH, Operation, effect}
 use Rattle.table.specs.View.{view}
 use Rattle.ops.specs.declared.Reply.the-variants.{Done}
@@ -29,7 +29,7 @@ returns c = λ b v.
     let a = start .args in
     let p : Pool = view (a .s) (a .t .now) in
     let o : Operation = operation LENGTH (a .a) b v in
-    does p o (is-done p o (one (start .pre .0) o refl (start .pre .1 .0) refl) refl refl refl (none-needed (frees (p .cells)))) (itself (start .pre .0))
+    does p o (needs-none p o (one o refl (start .pre) refl) refl refl refl refl) (itself (start .pre .0))
     (ap (Done 2) (c .length .ensures .0))
 
 pub length-spec : {M : Type 1} → statement M
