@@ -30,7 +30,8 @@ count-of-requires c κs =
 
 decap-requires : tie.Need-decap-requires
 decap-requires c κs =
-    let start = c .before .before .before .before .before .before .before in
+    let after-holder-of = c .before .before .before .before in
+    let start = after-holder-of .before .before .before in
     (start .pre .0, (start .pre .1 .0, (start .pre .1 .1 .0, (start .pre .1 .1 .1 .0, count (c .before .before) ∙ c .before .if1 .taken))))
 
 same-length : tie.Need-same-length
@@ -39,7 +40,8 @@ same-length c = search needs
 returns : tie.Need-returns
 returns c =
     let then1 = c .before .before .before .before in
-    let start = then1 .before .before .before .before .before .before in
+    let after-holder-of = then1 .before .before .before in
+    let start = after-holder-of .before .before .before in
     said (c .before .before .decap .ensures)
     (sym
     (adv-alone _ _ _ (start .pre .1 .1 .0) (omega arith) (omega arith) (start .pre .1 .0 .2) (start .pre .1 .1 .1 .0)
@@ -47,7 +49,8 @@ returns c =
 
 step-off-requires : tie.Need-step-off-requires
 step-off-requires c κs =
-    let start = c .before .before .before .before .before .before .before in
+    let after-holder-of = c .before .before .before .before in
+    let start = after-holder-of .before .before .before in
     let l = holder-live _ (start .args .a) (start .pre .1 .1 .0) (start .pre .1 .1 .1 .1) in
     (start .pre .0, (start .pre .1 .0, (start .pre .1 .1 .0, (start .pre .1 .1 .1 .0, omega (arith, l, count (c .before .before), c .before .if1 .left)))))
 

@@ -42,7 +42,8 @@ returns c =
 release-requires : tie.Need-release-requires
 release-requires c κs =
     let after-set-count = c .before .before .before .before .before in
-    let start = after-set-count .before .before .before .before .before .before .before .before .before in
+    let after-next-of = after-set-count .before .before .before .before in
+    let start = after-next-of .before .before .before .before .before in
     let k = after-set-count .set-count .ensures in (
       k .table,
       (

@@ -28,13 +28,14 @@ same-length c = search needs
 
 returns : tie.Need-returns
 returns c =
-    let after-drop-root = c .before .before .before .before .before .before in
+    let after-set-holder = c .before .before in
+    let after-drop-root = after-set-holder .before .before .before .before in
     let a = after-drop-root .before .before .before .before .before .args in
     let p = view (a .s) (a .t .now) in
     let x = after-drop-root .before .before .holder-of .ensures .0 in
     let d = after-drop-root .drop-root .ensures in (
       d .0 ∙ ap (λ (y : ℕ). dropped (p .free) (p .cells) y .freed) x ∙ is-erase _ (a .a) .1,
-      said (after (putHolder (a .a) 0) (d .1) (c .before .before .set-holder .ensures)) (ap (λ (y : ℕ). putHolder (a .a) 0 (less p y)) x ∙ is-erase p (a .a) .0),
+      said (after (putHolder (a .a) 0) (d .1) (after-set-holder .set-holder .ensures)) (ap (λ (y : ℕ). putHolder (a .a) 0 (less p y)) x ∙ is-erase p (a .a) .0),
     )
 
 pub erase-spec : {M : Type 1} → statement M

@@ -32,34 +32,39 @@ next-of-requires c κs =
 
 item-of-requires : tie.Need-item-of-requires
 item-of-requires c κs =
-    let start = c .before .before .before .before .before .before in
-    (start .pre .0, head (c .before .before .before) .cell)
+    let after-holder-of = c .before .before .before in
+    let start = after-holder-of .before .before .before in
+    (start .pre .0, head after-holder-of .cell)
 
 count-of-requires : tie.Need-count-of-requires
 count-of-requires c κs =
-    let start = c .before .before .before .before .before .before .before .before in
-    (start .pre .0, head (c .before .before .before .before .before) .cell)
+    let after-holder-of = c .before .before .before .before .before in
+    let start = after-holder-of .before .before .before in
+    (start .pre .0, head after-holder-of .cell)
 
 sub-n : tie.Need-sub-n
 sub-n c =
-    let after-holder-of = c .before .before .before .before .before .before in
+    let after-next-of = c .before .before .before .before in
+    let after-holder-of = after-next-of .before .before in
     let start = after-holder-of .before .before .before in
     omega (arith, ap (countOf (view (start .args .s) (start .args .t .now) .cells)) (after-holder-of .holder-of .ensures .0))
 
 share-requires : tie.Need-share-requires
 share-requires c κs =
     let after-item-of = c .before .before .before in
-    let start = after-item-of .before .before .before .before .before .before .before in (
+    let after-holder-of = after-item-of .before .before .before .before in
+    let start = after-holder-of .before .before .before in (
       start .pre .0,
       (
-        rw (after-item-of .item-of .ensures) (head (after-item-of .before .before .before .before) .item),
+        rw (after-item-of .item-of .ensures) (head after-holder-of .item),
         count-high _ _ (start .pre .0) (start .pre .1 .1 .0) _ _ (start .pre .1 .0 .1) (start .pre .1 .1 .1 .0),
       ),
     )
 
 share-requires-2 : tie.Need-share-requires-2
 share-requires-2 c κs =
-    let after-item-of = c .before .before .before .before .before .before .before in
+    let after-count-of = c .before .before .before .before .before in
+    let after-item-of = after-count-of .before .before in
     let after-holder-of = after-item-of .before .before .before .before in
     let start = after-holder-of .before .before .before in
     let d = c .before .before .before .share .ensures in
@@ -80,7 +85,8 @@ set-count-requires : tie.Need-set-count-requires
 set-count-requires c κs =
     let after-share2 = c .before .before .before in
     let after-share = after-share2 .before .before .before .before in
-    let after-holder-of = after-share .before .before .before .before .before .before .before .before in
+    let after-item-of = after-share .before .before .before .before in
+    let after-holder-of = after-item-of .before .before .before .before in
     let start = after-holder-of .before .before .before in
     let a = start .args in
     let p = view (a .s) (a .t .now) in (
@@ -91,19 +97,24 @@ set-count-requires c κs =
 set-holder-requires : tie.Need-set-holder-requires
 set-holder-requires c κs =
     let after-set-count = c .before .before .before in
-    let after-share = after-set-count .before .before .before .before .before .before .before .before in
-    let after-next-of = after-share .before .before .before .before .before .before in
+    let after-share2 = after-set-count .before .before .before .before in
+    let after-share = after-share2 .before .before .before .before in
+    let after-item-of = after-share .before .before .before .before in
+    let after-next-of = after-item-of .before .before in
     let start = after-next-of .before .before .before .before .before in
     (after-set-count .set-count .ensures .table, (start .pre .1 .0 .0, rw (after-next-of .next-of .ensures .0) (head (after-next-of .before .before) .next)))
 
 set-holder-requires-2 : tie.Need-set-holder-requires-2
 set-holder-requires-2 c κs =
     let after-set-holder = c .before .before .before in
-    let after-share = after-set-holder .before .before .before .before .before .before .before .before .before .before .before .before in
+    let after-set-count = after-set-holder .before .before .before .before in
+    let after-share2 = after-set-count .before .before .before .before in
+    let after-share = after-share2 .before .before .before .before in
     let after-item-of = after-share .before .before .before .before in
-    let start = after-item-of .before .before .before .before .before .before .before in (
+    let after-holder-of = after-item-of .before .before .before .before in
+    let start = after-holder-of .before .before .before in (
       after-set-holder .set-holder .ensures .table,
-      (start .pre .1 .0 .1, rw (after-item-of .item-of .ensures) (head (after-item-of .before .before .before .before) .item)),
+      (start .pre .1 .0 .1, rw (after-item-of .item-of .ensures) (head after-holder-of .item)),
     )
 
 same-length : tie.Need-same-length
@@ -111,7 +122,8 @@ same-length c = search needs
 
 returns : tie.Need-returns
 returns c =
-    let after-set-holder = c .before .before .before .before .before .before in
+    let after-set-holder2 = c .before .before in
+    let after-set-holder = after-set-holder2 .before .before .before .before in
     let after-set-count = after-set-holder .before .before .before .before in
     let after-share2 = after-set-count .before .before .before .before in
     let after-share = after-share2 .before .before .before .before in
@@ -128,7 +140,7 @@ returns c =
     (after (putHolder (a .a) (y .result))
     (after (putCount (x .result) (r .result - 1))
     (after (λ (q : Pool). celled (share (q .cells) (y .result)) q) (after-share .share .ensures) (after-share2 .share2 .ensures))
-    (after-set-count .set-count .ensures)) (after-set-holder .set-holder .ensures)) (c .before .before .set-holder2 .ensures))
+    (after-set-count .set-count .ensures)) (after-set-holder .set-holder .ensures)) (after-set-holder2 .set-holder2 .ensures))
     (is-adv _ _ _ (start .pre .1 .1 .0) (omega arith) (omega arith) (start .pre .1 .0 .2) (start .pre .1 .1 .1 .0) (start .pre .1 .1 .1 .1) _ _ _ _
     (x .ensures .0) (y .ensures .0) (e .ensures) (r .ensures .0))
 

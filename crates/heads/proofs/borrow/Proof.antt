@@ -33,10 +33,11 @@ same-length c = search needs
 
 returns : tie.Need-returns
 returns c =
-    let after-share = c .before .before .before .before .before .before in
+    let after-set-holder = c .before .before in
+    let after-share = after-set-holder .before .before .before .before in
     let a = after-share .before .before .before .before .before .args in
     let x = after-share .before .before .holder-of in
-    said (after (putHolder (a .b) (x .result)) (after-share .share .ensures) (c .before .before .set-holder .ensures)) (is-borrow _ _ _ _ (x .ensures .0))
+    said (after (putHolder (a .b) (x .result)) (after-share .share .ensures) (after-set-holder .set-holder .ensures)) (is-borrow _ _ _ _ (x .ensures .0))
 
 pub borrow-spec : {M : Type 1} → statement M
 borrow-spec =

@@ -29,39 +29,48 @@ next-of-requires c κs =
 
 item-of-requires : tie.Need-item-of-requires
 item-of-requires c κs =
-    let start = c .before .before .before .before .before .before in
-    (start .pre .0, head (c .before .before .before) .cell)
+    let after-holder-of = c .before .before .before in
+    let start = after-holder-of .before .before .before in
+    (start .pre .0, head after-holder-of .cell)
 
 set-count-requires : tie.Need-set-count-requires
 set-count-requires c κs =
-    let start = c .before .before .before .before .before .before .before .before in
-    (start .pre .0, (head (c .before .before .before .before .before) .cell, omega arith))
+    let after-holder-of = c .before .before .before .before .before in
+    let start = after-holder-of .before .before .before in
+    (start .pre .0, (head after-holder-of .cell, omega arith))
 
 release-requires : tie.Need-release-requires
 release-requires c κs =
     let after-set-count = c .before .before .before in
-    let start = after-set-count .before .before .before .before .before .before .before .before .before in (
+    let after-next-of = after-set-count .before .before .before .before in
+    let start = after-next-of .before .before .before .before .before in (
       after-set-count .set-count .ensures .table,
       (
-        head (after-set-count .before .before .before .before .before .before) .cell,
+        head (after-next-of .before .before) .cell,
         rw (ap (λ (p : Pool). p .free) (after-set-count .set-count .ensures .is)) (omega (arith, ranged _ (start .pre .1 .1 .0) .free-top)),
       ),
     )
 
 set-holder-requires : tie.Need-set-holder-requires
 set-holder-requires c κs =
-    let after-next-of = c .before .before .before .before .before .before .before .before .before .before .before in
+    let after-release = c .before .before .before in
+    let after-set-count = after-release .before .before .before .before in
+    let after-next-of = after-set-count .before .before .before .before in
     let start = after-next-of .before .before .before .before .before in (
-      c .before .before .before .release .ensures .table,
+      after-release .release .ensures .table,
       (start .pre .1 .0 .0, rw (after-next-of .next-of .ensures .0) (head (after-next-of .before .before) .next)),
     )
 
 set-holder-requires-2 : tie.Need-set-holder-requires-2
 set-holder-requires-2 c κs =
-    let after-item-of = c .before .before .before .before .before .before .before .before .before .before .before .before .before in
-    let start = after-item-of .before .before .before .before .before .before .before in (
-      c .before .before .before .set-holder .ensures .table,
-      (start .pre .1 .0 .1, rw (after-item-of .item-of .ensures) (head (after-item-of .before .before .before .before) .item)),
+    let after-set-holder = c .before .before .before in
+    let after-release = after-set-holder .before .before .before .before in
+    let after-set-count = after-release .before .before .before .before in
+    let after-item-of = after-set-count .before .before in
+    let after-holder-of = after-item-of .before .before .before .before in
+    let start = after-holder-of .before .before .before in (
+      after-set-holder .set-holder .ensures .table,
+      (start .pre .1 .0 .1, rw (after-item-of .item-of .ensures) (head after-holder-of .item)),
     )
 
 same-length : tie.Need-same-length
@@ -69,7 +78,8 @@ same-length c = search needs
 
 returns : tie.Need-returns
 returns c =
-    let after-set-holder = c .before .before .before .before .before .before in
+    let after-set-holder2 = c .before .before in
+    let after-set-holder = after-set-holder2 .before .before .before .before in
     let after-release = after-set-holder .before .before .before .before in
     let after-set-count = after-release .before .before .before .before in
     let after-next-of = after-set-count .before .before .before .before in
@@ -81,7 +91,7 @@ returns c =
     (after (putHolder (a .b) (e .result))
     (after (putHolder (a .a) (s .result))
     (after (λ (p : Pool). putFree (x .result) (putNext (x .result) (p .free) p)) (after-set-count .set-count .ensures) (after-release .release .ensures))
-    (after-set-holder .set-holder .ensures)) (c .before .before .set-holder2 .ensures)) (is-decap _ _ _ _ (x .ensures .0) _ _ (s .ensures .0) (e .ensures))
+    (after-set-holder .set-holder .ensures)) (after-set-holder2 .set-holder2 .ensures)) (is-decap _ _ _ _ (x .ensures .0) _ _ (s .ensures .0) (e .ensures))
 
 pub decap-spec : {M : Type 1} → statement M
 decap-spec =

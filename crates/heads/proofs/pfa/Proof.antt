@@ -23,7 +23,8 @@ new-cell-requires c κs =
 
 set-holder-requires : tie.Need-set-holder-requires
 set-holder-requires c κs =
-    let start = c .before .before .before .before .before .before .before .before in (
+    let after-holder-of = c .before .before .before .before .before in
+    let start = after-holder-of .before .before .before in (
       c .before .before .before .new-cell .ensures .1 .table,
       (
         start .pre .1 .0,
@@ -36,10 +37,11 @@ same-length c = search needs
 
 returns : tie.Need-returns
 returns c =
-    let after-new-cell = c .before .before .before .before .before .before in
+    let after-set-holder = c .before .before in
+    let after-new-cell = after-set-holder .before .before .before .before in
     let a = after-new-cell .before .before .before .before .before .args in
     let k = after-new-cell .new-cell in
-    said (after (putHolder (a .a) (k .result)) (k .ensures .1) (c .before .before .set-holder .ensures))
+    said (after (putHolder (a .a) (k .result)) (k .ensures .1) (after-set-holder .set-holder .ensures))
     (is-pfa _ _ _ _ _ (after-new-cell .before .before .holder-of .ensures .0) (k .ensures .0))
 
 pub pfa-spec : {M : Type 1} → statement M

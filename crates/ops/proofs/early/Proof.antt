@@ -24,12 +24,14 @@ a-within : (c : tie.Else2) →
 a-within c = omega (arith, c .if2 .left, c .before .holders .ensures)
 
 uses-two : (c : tie.Else3) →
-    let a = c .before .before .before .before .before .before .args in
+    let else1 = c .before .before .before .before in
+    let a = else1 .before .before .args in
     usesB (a .code) ≡ true
 uses-two c = sym (c .before .uses-b .ensures) ∙ not-false _ (c .if3 .left)
 
 b-within : (c : tie.Else4) →
-    let a = c .before .before .before .before .before .before .before .before .args in
+    let else2 = c .before .before .before .before in
+    let a = else2 .before .before .before .before .args in
     a .b < holderCount (a .s)
 b-within c = omega (arith, c .if4 .left, c .before .holders2 .ensures)
 

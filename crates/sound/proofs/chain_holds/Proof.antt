@@ -54,7 +54,8 @@ loop-less c = search needs
 
 loop-again : tie.Need-loop-again Inv-loop μ-loop
 loop-again c =
-    let in-loop = c .before .before .before .before .before .before in
+    let else1 = c .before .before .before .before in
+    let in-loop = else1 .before .before in
     let turn = in-loop .before in
     ap (chained (turn .loop .left - 1) _) (c .next-of .ensures .0)
     ∙ go-on (turn .loop .left) _ _ _ (in-loop .loop-test .taken) (omega arith) (c .before .before .before .count-of .ensures .0) (omega arith)

@@ -24,8 +24,10 @@ clear-requires c κs = search needs
 
 add-both : tie.Need-add-both
 add-both c =
-    let after-peel-all = c .before .before .before .before .before .before .before .before in
-    let start = after-peel-all .before .before .before .before .before .before .before .before .before in
+    let after-clear = c .before .before .before .before in
+    let after-peel-all = after-clear .before .before .before .before in
+    let after-copy-counts = after-peel-all .before .before .before .before .before in
+    let start = after-copy-counts .before .before .before .before in
     let a = start .args in
     let t = start .pre .0 in
     omega (
@@ -45,7 +47,8 @@ same-length c = search needs
 
 returns : tie.Need-returns
 returns c =
-    let after-clear = c .before .before .before .before .before .before in
+    let after-w3 = c .before .before .before .before .before in
+    let after-clear = after-w3 .before in
     let after-peel-all = after-clear .before .before .before .before in
     let after-copy-counts = after-peel-all .before .before .before .before .before in
     let start = after-copy-counts .before .before .before .before in

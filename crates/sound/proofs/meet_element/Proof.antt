@@ -22,13 +22,15 @@ returns c =
 
 returns-2 : tie.Need-returns-2
 returns-2 c =
-    let start = c .before .before .before .before .before .before in
-    no-element _ _ _ _ (start .pre .1) (c .before .before .kind-of .result) 0 (c .before .before .kind-of .ensures)
-    (typed-no (c .before .before .kind-of .result) (start .args .e .ok) (omega arith)) (omega arith)
+    let else1 = c .before in
+    let start = else1 .before .before .before .before .before in
+    no-element _ _ _ _ (start .pre .1) (else1 .before .kind-of .result) 0 (else1 .before .kind-of .ensures)
+    (typed-no (else1 .before .kind-of .result) (start .args .e .ok) (omega arith)) (omega arith)
 
 elem-of-requires : tie.Need-elem-of-requires
 elem-of-requires c κs =
-    let start = c .before .before .before .before .before .before in
+    let else1 = c .before in
+    let start = else1 .before .before .before .before .before in
     (start .pre .0, hand-cell _ _ _ _ (start .pre .1))
 
 cast-y : tie.Need-cast-y
@@ -52,12 +54,13 @@ same-length c = search needs
 
 returns-3 : tie.Need-returns-3
 returns-3 c =
-    let after-follow = c .before .before .before .before .before .before in
+    let after-stow = c .before .before in
+    let after-follow = after-stow .before .before .before .before in
     let after-kind-of = after-follow .before .before .before .before .before in
     let start = after-kind-of .before .before .before .before in
     some-element _ _ _ _ (start .pre .1) _ _ (after-kind-of .kind-of .ensures) (typed-yes (after-kind-of .kind-of .result) (start .args .e .ok) (omega arith))
     (after-follow .before .before .elem-of .result) _ (after-follow .follow .result) (omega arith) (after-follow .before .before .elem-of .ensures)
-    (after-follow .follow .ensures) _ (c .before .before .stow .result) (c .before .before .stow .ensures)
+    (after-follow .follow .ensures) _ (after-stow .stow .result) (after-stow .stow .ensures)
 
 pub meet-element-spec : {M : Type 1} → statement M
 meet-element-spec =

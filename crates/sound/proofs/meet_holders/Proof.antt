@@ -50,7 +50,8 @@ loop-less c = search needs
 
 loop-again : tie.Need-loop-again Inv-loop μ-loop
 loop-again c =
-    let after-follow = c .before .before .before .before .before .before in
+    let after-stow = c .before .before in
+    let after-follow = after-stow .before .before .before .before in
     let turn = after-follow .before .before .before .before in
     let start = turn .before .before .before .before in
     let i = turn .loop .inv in
@@ -58,7 +59,7 @@ loop-again c =
       i .0,
       i .1,
       holders-step _ _ _ _ _ _ (t .measured ∙ sym (i .0)) (omega arith) (omega arith) (i .2) (omega arith) _ _ _
-          (after-follow .before .before .holder-of .ensures .0) (after-follow .follow .ensures) _ _ (c .before .before .stow .ensures),
+          (after-follow .before .before .holder-of .ensures .0) (after-follow .follow .ensures) _ _ (after-stow .stow .ensures),
     )
 
 same-length : tie.Need-same-length Inv-loop μ-loop

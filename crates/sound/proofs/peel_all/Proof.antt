@@ -19,29 +19,35 @@ meet-holders-requires c κs = c .before .before .before .pre
 
 refill-requires : tie.Need-refill-requires Inv-loop μ-loop
 refill-requires c κs =
-    let start = c .before .before .before .before .before .before .before in
+    let after-meet-holders = c .before .before .before in
+    let start = after-meet-holders .before .before .before .before in
     let a = start .args in
     let t = start .pre .0 in
-    start-room (view (a .s) (a .t .now)) _ _ _ _ (t .measured) (omega arith) (start .pre .1 .0) (c .before .before .before .meet-holders .ensures)
+    start-room (view (a .s) (a .t .now)) _ _ _ _ (t .measured) (omega arith) (start .pre .1 .0) (after-meet-holders .meet-holders .ensures)
 
 loop-holds : tie.Need-loop-holds Inv-loop μ-loop
 loop-holds c =
-    let start = c .before .before .before .before .before .before .before .before in
+    let after-meet-holders = c .before .before .before .before in
+    let start = after-meet-holders .before .before .before .before in
     let a = start .args in
     let t = start .pre .0 in
-    peel-start (view (a .s) (a .t .now)) _ _ _ _ (t .measured) (omega arith) (start .pre .1 .0) (c .before .before .before .before .meet-holders .ensures) _
+    peel-start (view (a .s) (a .t .now)) _ _ _ _ (t .measured) (omega arith) (start .pre .1 .0) (after-meet-holders .meet-holders .ensures) _
     (c .refill .ensures)
 
 take-cell-requires : tie.Need-take-cell-requires Inv-loop μ-loop
 take-cell-requires c κs =
-    let start = c .before .before .before .before .before .before .before .before .before .before .before .before in
+    let after-refill = c .before .before .before .before in
+    let after-meet-holders = after-refill .before .before .before .before in
+    let start = after-meet-holders .before .before .before .before in
     let t = start .pre .0 in
     (t, taking _ _ _ _ _ (t .measured) (omega arith) (omega arith) (c .before .before .before .loop .inv) (c .before .if1 .taken))
 
 loop-less : tie.Need-loop-less Inv-loop μ-loop
 loop-less c =
     let then1 = c .before .before .before .before in
-    let start = then1 .before .before .before .before .before .before .before .before .before .before .before in
+    let after-refill = then1 .before .before .before in
+    let after-meet-holders = after-refill .before .before .before .before in
+    let start = after-meet-holders .before .before .before .before in
     let a = start .args in
     let t = start .pre .0 in
     omega (
@@ -53,7 +59,9 @@ loop-less c =
 loop-again : tie.Need-loop-again Inv-loop μ-loop
 loop-again c =
     let then1 = c .before .before .before .before in
-    let start = then1 .before .before .before .before .before .before .before .before .before .before .before in
+    let after-refill = then1 .before .before .before in
+    let after-meet-holders = after-refill .before .before .before .before in
+    let start = after-meet-holders .before .before .before .before in
     let a = start .args in
     let t = start .pre .0 in
     peel-step (view (a .s) (a .t .now)) _ _ _ _ (t .measured) (omega arith) (omega arith) (then1 .before .before .loop .inv) _ _ (then1 .if1 .taken)
@@ -61,12 +69,14 @@ loop-again c =
 
 same-length : tie.Need-same-length Inv-loop μ-loop
 same-length c =
-    let after-meet-holders = c .before .before .before .before .before .before .before in
+    let after-refill = c .before .before .before in
+    let after-meet-holders = after-refill .before .before .before .before in
     c .before .before .loop .inv .within .size ∙ after-meet-holders .meet-holders .ensures .within .size
 
 returns : tie.Need-returns Inv-loop μ-loop
 returns c =
-    let after-meet-holders = c .before .before .before .before .before .before .before in
+    let after-refill = c .before .before .before in
+    let after-meet-holders = after-refill .before .before .before .before in
     let start = after-meet-holders .before .before .before .before in
     let t = start .pre .0 in
     peel-end _ _ _ _ _ (t .measured) (omega arith) (omega arith) (c .before .before .loop .inv) _ (after-meet-holders .meet-holders .ensures .within)

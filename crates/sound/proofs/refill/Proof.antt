@@ -26,7 +26,8 @@ shared-slice-read-x c = search needs
 
 cast-x : tie.Need-cast-x
 cast-x c =
-    let a = c .before .before .before .before .before .before .args in
+    let else1 = c .before .before .before .before in
+    let a = else1 .before .before .args in
     omega (arith, c .shared-slice-known .given (a .n + (a .e .top - 1)))
 
 returns-3 : tie.Need-returns-3

@@ -17,10 +17,11 @@ follow-requires c κs = search needs
 
 refill-requires : tie.Need-refill-requires
 refill-requires c κs =
-    let after-meet-element = c .before .before .before .before .before .before .before in
+    let after-follow = c .before .before .before in
+    let after-meet-element = after-follow .before .before .before .before in
     let after-next-of = after-meet-element .before .before in
     next-room _ _ _ _ (after-next-of .before .before .before .pre .1) _ _ (after-meet-element .meet-element .ensures) _ _ _ (after-next-of .next-of .ensures .0)
-    (c .before .before .before .follow .ensures)
+    (after-follow .follow .ensures)
 
 same-length : tie.Need-same-length
 same-length c = search needs

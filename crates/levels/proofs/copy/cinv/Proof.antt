@@ -51,12 +51,13 @@ same-length c = search needs
 
 returns : tie.Need-returns
 returns c =
-    let after-copy = c .before .before .before .before .before .before in
+    let after-set-holder = c .before .before in
+    let after-copy = after-set-holder .before .before .before .before in
     let a = after-copy .before .before .before .before .before .args in
     let p = view (a .s) (a .t .now) in
     let d = after-copy .copy .ensures in
     let ex = after-copy .before .before .holder-of .ensures .0 in
-    said (after (putHolder (a .b) (after-copy .copy .result)) (d .1) (c .before .before .set-holder .ensures))
+    said (after (putHolder (a .b) (after-copy .copy .result)) (d .1) (after-set-holder .set-holder .ensures))
     (ap (λ (z : ℕ). putHolder (a .b) z (placed (made p (after-copy .before .before .holder-of .result)) p)) (d .0)
     ∙ ap (λ (y : ℕ). putHolder (a .b) (made p y .head) (placed (made p y) p)) ex ∙ is-cinv _ _ _)
 

@@ -86,17 +86,20 @@ next-of-requires-2 c κs =
 
 twin-requires : tie.Need-twin-requires Inv-loop μ-loop
 twin-requires c κs =
-    let turn = c .before .before .before .before .before .before in
-    (turn .loop .inv .0, sure (c .before .before .before .before .before))
+    let in-loop = c .before .before .before .before .before in
+    let turn = in-loop .before in
+    (turn .loop .inv .0, sure in-loop)
 
 loop-less : tie.Need-loop-less Inv-loop μ-loop
 loop-less c =
-    let in-loop = c .before .before .before .before .before .before .before .before in
+    let after-next-of2 = c .before .before .before .before in
+    let in-loop = after-next-of2 .before .before .before .before in
     less over moved _ (in-loop .before .loop .inv .1) (ne-eqb _ 0 (in-loop .loop-test .taken)) (went c)
 
 loop-again : tie.Need-loop-again Inv-loop μ-loop
 loop-again c =
-    let in-loop = c .before .before .before .before .before .before .before .before in
+    let after-next-of2 = c .before .before .before .before in
+    let in-loop = after-next-of2 .before .before .before .before in
     let k = c .before .before .twin .ensures in
     let i = in-loop .before .loop .inv in (
       k .table,

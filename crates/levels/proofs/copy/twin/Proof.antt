@@ -18,7 +18,8 @@ item-of-requires c κs = search needs
 
 share-requires : tie.Need-share-requires
 share-requires c κs =
-    let start = c .before .before .before .before .before .before .before .before in
+    let after-kind-of = c .before .before .before .before .before in
+    let start = after-kind-of .before .before .before in
     let k = start .pre .1 in
     (start .pre .0, rw (c .before .item-of .ensures) (omega arith, λ n. omega (arith, k .more n)))
 
@@ -30,12 +31,13 @@ same-length c = search needs
 
 returns : tie.Need-returns
 returns c =
-    let after-share = c .before .before .before .before .before .before in
+    let after-set-cell = c .before .before in
+    let after-share = after-set-cell .before .before .before .before in
     let after-elem-of = after-share .before .before .before .before in
     let a = after-elem-of .before .before .before .before .before .args in
     said
     (after (putCell (a .f) (cell (after-elem-of .before .before .kind-of .result) (after-elem-of .elem-of .result) 1 (a .y))) (after-share .share .ensures)
-    (c .before .before .set-cell .ensures))
+    (after-set-cell .set-cell .ensures))
     (is-twin _ (a .f) (a .x) _ (after-elem-of .before .before .kind-of .ensures) (after-elem-of .elem-of .ensures)
     (after-share .before .before .item-of .ensures))
 

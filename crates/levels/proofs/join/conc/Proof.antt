@@ -42,13 +42,14 @@ same-length-2 c = search needs
 
 returns-2 : tie.Need-returns-2
 returns-2 c =
-    let after-set-holder = c .before .before .before .before .before .before in
+    let after-set-holder2 = c .before .before in
+    let after-set-holder = after-set-holder2 .before .before .before .before in
     let then2 = after-set-holder .before .before in
     let else1 = then2 .before .before .before in
     let a = else1 .before .before .before .before .args in
     let p = view (a .s) (a .t .now) in
     let ey = else1 .before .holder-of .ensures .0 in
-    said (after (putHolder (a .b) 0) (after-set-holder .set-holder .ensures) (c .before .before .set-holder2 .ensures))
+    said (after (putHolder (a .b) 0) (after-set-holder .set-holder .ensures) (after-set-holder2 .set-holder2 .ensures))
     (ap (λ (y : ℕ). putHolder (a .b) 0 (putHolder (a .a) y p)) ey
     ∙ join-null _ _ _ (sym (then2 .before .holder-of2 .ensures .0) ∙ then2 .if2 .taken) (λ q. else1 .if1 .left (ey ∙ q)))
 
@@ -77,7 +78,8 @@ same-length-3 c = search needs
 
 returns-3 : tie.Need-returns-3
 returns-3 c =
-    let after-set-next = c .before .before .before .before .before .before in
+    let after-set-holder3 = c .before .before in
+    let after-set-next = after-set-holder3 .before .before .before .before in
     let else2 = after-set-next .before .before in
     let else1 = else2 .before .before .before in
     let start = else1 .before .before .before .before in
@@ -88,7 +90,7 @@ returns-3 c =
     let nb : holder p (a .b) ≢ 0 = λ q. else1 .if1 .left (ey ∙ q) in
     let el = start .pre .1 .1 .1 nb .1 na in
     let e = ap₂ (λ (x y : ℕ). putHolder (a .b) 0 (putNext x y p)) el ey in
-    said (after (putHolder (a .b) 0) (after-set-next .set-next .ensures) (c .before .before .set-holder3 .ensures)) (e ∙ join-last _ _ _ na nb)
+    said (after (putHolder (a .b) 0) (after-set-next .set-next .ensures) (after-set-holder3 .set-holder3 .ensures)) (e ∙ join-last _ _ _ na nb)
 
 pub conc-spec : {M : Type 1} → statement M
 conc-spec =

@@ -46,13 +46,14 @@ same-length c = search needs
 
 returns : tie.Need-returns
 returns c =
-    let after-turn = c .before .before .before .before .before .before in
+    let after-set-holder = c .before .before in
+    let after-turn = after-set-holder .before .before .before .before in
     let a = after-turn .before .before .before .before .before .args in
     let p = view (a .s) (a .t .now) in
     let d = after-turn .turn .ensures in
     let n = length (p .cells) in
     let cs = p .cells in
-    said (after (putHolder (a .a) (after-turn .turn .result)) (d .1) (c .before .before .set-holder .ensures))
+    said (after (putHolder (a .a) (after-turn .turn .result)) (d .1) (after-set-holder .set-holder .ensures))
     (ap (λ (z : ℕ). putHolder (a .a) z (celled (flip n cs (after-turn .before .before .holder-of .result) 0 .0) p)) (d .0)
     ∙ ap (λ (y : ℕ). putHolder (a .a) (flip n cs y 0 .1) (celled (flip n cs y 0 .0) p)) (after-turn .before .before .holder-of .ensures .0) ∙ is-inv _ _)
 

@@ -62,12 +62,14 @@ set-next-requires c κs =
 
 loop-less : tie.Need-loop-less Inv-loop μ-loop
 loop-less c =
-    let in-loop = c .before .before .before .before .before .before in
+    let after-next-of = c .before .before .before .before in
+    let in-loop = after-next-of .before .before in
     less over moved _ (in-loop .before .loop .inv .1) (ne-eqb _ 0 (in-loop .loop-test .taken)) (went c)
 
 loop-again : tie.Need-loop-again Inv-loop μ-loop
 loop-again c =
-    let in-loop = c .before .before .before .before .before .before in
+    let after-next-of = c .before .before .before .before in
+    let in-loop = after-next-of .before .before in
     let k = c .before .before .set-next .ensures in
     let i = in-loop .before .loop .inv in (
       k .table,

@@ -47,7 +47,8 @@ returns c = (
 
 next-of-requires : tie.Need-next-of-requires Inv-loop μ-loop
 next-of-requires c κs =
-    let start = c .before .before .before .before .before .before in
+    let turn = c .before .before .before in
+    let start = turn .before .before .before in
     (start .pre .0, cell (c .before .before))
 
 loop-less : tie.Need-loop-less Inv-loop μ-loop

@@ -24,8 +24,9 @@ both : (c : tie.Else1 Inv-loop μ-loop) →
 both c = pair _ _ _ _ (c .before .loop-test .taken) (c .if1 .left) (c .before .before .loop .inv)
 
 cell : (c : tie.Else1 Inv-loop μ-loop) (x : ℕ) →
-    InPool (view (c .before .before .before .before .before .before .args .s) (c .before .before .before .before .before .before .args .t .now) .cells) x
-    → IsCell (c .before .before .before .before .before .before .args .s) x
+    let turn = c .before .before in
+    InPool (view (turn .before .before .before .before .args .s) (turn .before .before .before .before .args .t .now) .cells) x
+    → IsCell (turn .before .before .before .before .args .s) x
 cell c x i = record { low = i .0; high = omega arith }
 
 holder-of-requires : tie.Need-holder-of-requires Inv-loop μ-loop
@@ -42,12 +43,14 @@ returns c = too-few _ _ _ _ (c .before .loop-test .taken) (c .if1 .taken) (c .be
 
 next-of-requires : tie.Need-next-of-requires Inv-loop μ-loop
 next-of-requires c κs =
-    let start = c .before .before .before .before .before .before in
+    let turn = c .before .before in
+    let start = turn .before .before .before .before in
     (start .pre .0, cell c _ (both c .here .inside))
 
 next-of-requires-2 : tie.Need-next-of-requires-2 Inv-loop μ-loop
 next-of-requires-2 c κs =
-    let start = c .before .before .before .before .before .before .before in
+    let turn = c .before .before .before in
+    let start = turn .before .before .before .before in
     (start .pre .0, cell (c .before) _ (both (c .before) .free))
 
 loop-less : tie.Need-loop-less Inv-loop μ-loop

@@ -68,7 +68,8 @@ returns-2 c v =
 
 first-requires : tie.Need-first-requires
 first-requires c κs =
-    let else1 = c .before .before .before .before .before .before in
+    let after-holder-of = c .before .before .before .before in
+    let else1 = after-holder-of .before .before in
     let start = else1 .before .before .before .before in
     (start .pre .0, (start .pre .1 .0 .0, (start .pre .1 .1, parted else1 .filled)))
 
