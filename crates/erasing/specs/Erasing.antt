@@ -29,7 +29,9 @@ pub record Fine (m : ℕ) (w : Dropping) : Type 0 where
   pub small : countOf (w .cells) (w .here) ≤ m
 
 abbrev pub state : Shape → List ℕ → Erasing → Dropping
-state s ws e = record { free = view s ws .free; cells = view s ws .cells; here = e .here; waiting = e .waiting; freed = e .freed }
+state s ws e =
+    let p = view s ws in
+    record { free = p .free; cells = p .cells; here = e .here; waiting = e .waiting; freed = e .freed }
 
 -- ws and e stand for w, and the holders are hs
 pub record Does (s : Shape) (ws : List ℕ) (e : Erasing) (hs : List ℕ) (w : Dropping) : Type 0 where
@@ -45,7 +47,8 @@ pub record ErasingEnds (s : Shape) (ws : List ℕ) (e : Erasing) : Type 0 where
 -- v is on the way from w: what holds of erasing from w holds of erasing from v, and no more steps are left
 pub record Later (m : ℕ) (w v : Dropping) : Type 0 where
   pub on : (k : ℕ) (w₀ : Dropping) → Going halted stepped (Fine m) k w₀ w → Going halted stepped (Fine m) k w₀ v
-  pub fewer : (k : ℕ) (w₀ : Dropping) → Going halted stepped (Fine m) k w₀ w → steps halted stepped k v ≤ steps halted stepped k w
+  pub fewer : (k : ℕ) (w₀ : Dropping) → Going halted stepped (Fine m) k w₀ w
+      → steps halted stepped k v ≤ steps halted stepped k w
 
 -- us and f are where erasing from ws and e comes to an end
 pub record AtAnEnd (s : Shape) (ws : List ℕ) (e : Erasing) (us : List ℕ) (f : Erasing) : Type 0 where

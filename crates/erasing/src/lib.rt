@@ -21,7 +21,8 @@ fn drop_arrow(s: Shape, t: &mut [u32], e: Erasing) -> Erasing
     requires { ⌜ Table s (now t) ⌝ }
     requires { ⌜ Fine (greatestCount s) (state s (now t) e) ⌝ }
     requires { ⌜ 1 ≤ e .here ⌝ }
-    ensures { λ r. ⌜ Does s (now (t .exit)) r (view s (now (t .entry)) .holders) (stepped (state s (now (t .entry)) e)) ⌝ }
+    ensures { λ r. ⌜ Does s (now (t .exit)) r (view s (now (t .entry)) .holders)
+        (stepped (state s (now (t .entry)) e)) ⌝ }
 {
     let x = e.here;
     let n = table::count_of(s, t, x) - 1;
@@ -56,7 +57,8 @@ fn pop_waiting(s: Shape, t: &mut [u32], e: Erasing) -> Erasing
     requires { ⌜ Table s (now t) ⌝ }
     requires { ⌜ Fine (greatestCount s) (state s (now t) e) ⌝ }
     requires { ⌜ (e .here ≡ 0) × (1 ≤ e .waiting) ⌝ }
-    ensures { λ r. ⌜ Does s (now (t .exit)) r (view s (now (t .entry)) .holders) (stepped (state s (now (t .entry)) e)) ⌝ }
+    ensures { λ r. ⌜ Does s (now (t .exit)) r (view s (now (t .entry)) .holders)
+        (stepped (state s (now (t .entry)) e)) ⌝ }
 {
     let x = e.waiting;
     let item = table::elem_of(s, t, x) as usize;
@@ -86,7 +88,8 @@ fn follow(s: Shape, t: &mut [u32], start: Erasing) -> Erasing
 fn drop_root(s: Shape, t: &mut [u32], x: usize) -> usize
     requires { ⌜ Table s (now t) ⌝ }
     requires { ⌜ Rooted (greatestCount s) (view s (now t)) x ⌝ }
-    ensures { λ r. ⌜ (r ≡ dropped (view s (now (t .entry)) .free) (view s (now (t .entry)) .cells) x .freed) × Shows s (now (t .exit)) (less (view s (now (t .entry))) x) ⌝ }
+    ensures { λ r. ⌜ (r ≡ dropped (view s (now (t .entry)) .free) (view s (now (t .entry)) .cells) x .freed)
+        × Shows s (now (t .exit)) (less (view s (now (t .entry))) x) ⌝ }
 {
     let mut e = Erasing {
         here: x,
@@ -107,7 +110,8 @@ pub fn erase(s: Shape, t: &mut [u32], a: usize) -> usize
     requires { ⌜ Table s (now t) ⌝ }
     requires { ⌜ a < holderCount s ⌝ }
     requires { ⌜ Sound (view s (now t)) ⌝ }
-    ensures { λ r. ⌜ (r ≡ erase (view s (now (t .entry))) a .1) × Shows s (now (t .exit)) (erase (view s (now (t .entry))) a .0) ⌝ }
+    ensures { λ r. ⌜ (r ≡ erase (view s (now (t .entry))) a .1)
+        × Shows s (now (t .exit)) (erase (view s (now (t .entry))) a .0) ⌝ }
 {
     let x = table::holder_of(s, t, a);
     let n = drop_root(s, t, x);
@@ -134,7 +138,7 @@ fn step_off(s: Shape, t: &mut [u32], a: usize, b: usize)
     table::set_holder(s, t, b, e);
 }
 
-// ADV: a becomes its tail, and b its first element where that is a list; whoever else holds the old list keeps all of it.
+// ADV: a becomes its tail, and b its first element where that is a list; who else holds the old list keeps all of it.
 pub fn adv(s: Shape, t: &mut [u32], a: usize, b: usize)
     requires { ⌜ Table s (now t) ⌝ }
     requires { ⌜ (a < holderCount s) × (b < holderCount s) × (a ≢ b) ⌝ }

@@ -1,4 +1,4 @@
-// What happens at the head of a list, each in constant time: an element put before it, taken off, told; the list borrowed.
+// What happens at the head of a list, in constant time: an element put before it, taken off, told; the list borrowed.
 ghost use mathlib.Core.Path.{_≡_};
 ghost use mathlib.Core.Logic.{_≢_};
 ghost use Prim.Native.Nat.{_<_};

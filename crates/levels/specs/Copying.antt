@@ -24,7 +24,9 @@ abbrev pub over : Copying → Bool
 over w = eqb (w .left) 0
 
 unfoldable pub moved : Copying → Copying
-moved w = copying (withTwin (w .free) (w .cells) (w .left) (w .head)) (nextOf (share (w .cells) (item (w .cells) (w .left))) (w .free)) (nextOf (w .cells) (w .left)) (w .free)
+moved w =
+    copying (withTwin (w .free) (w .cells) (w .left) (w .head))
+    (nextOf (share (w .cells) (item (w .cells) (w .left))) (w .free)) (nextOf (w .cells) (w .left)) (w .free)
 
 -- what the loop has made
 abbrev pub told : Copying → Made

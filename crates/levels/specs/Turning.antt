@@ -5,6 +5,7 @@ use Prim.Native.Nat.{ℕ, _≤_}
 use lib.Dec.{eqb}
 use lib.ListN.{length}
 use Rattle.loops.specs.Loop.{Ends}
+use Rattle.pool.specs.Operations.{flip}
 use Rattle.pool.specs.Pool.{Cell, Pool, nextOf, setNext, InPool}
 
 -- the cells, the first still to turn, and the first of those turned
@@ -25,6 +26,10 @@ moved w = turning (setNext (w .cells) (w .left) (w .turned)) (nextOf (w .cells) 
 pub record Sure (w : Turning) : Type 0 where
   pub here : InPool (w .cells) (w .left)
   pub back : w .turned ≤ length (w .cells)
+
+-- the main level from x turned round: the cells, and its new first
+abbrev pub turned : Pool → ℕ → List Cell × ℕ
+turned p x = flip (length (p .cells)) (p .cells) x 0
 
 abbrev pub Turns : Pool → ℕ → Type 0
 Turns p x = Ends over moved Sure (length (p .cells)) (turning (p .cells) x 0)

@@ -2,4 +2,4 @@ pub mod TurningLaws
 pub mod CopyingLaws
 pub mod Beside
 pub mod Ending
-pub mod Joining
+pub mod JoiningLaws

@@ -13,7 +13,8 @@ use table::Shape;
 fn twin(s: Shape, t: &mut [u32], f: usize, x: usize, y: usize)
     requires { ⌜ Table s (now t) ⌝ }
     requires { ⌜ Copyable (holderCount s) (view s (now t) .cells) f x y ⌝ }
-    ensures { λ r. ⌜ Shows s (now (t .exit)) (celled (withTwin f (view s (now (t .entry)) .cells) x y) (view s (now (t .entry)))) ⌝ }
+    ensures { λ r. ⌜ Shows s (now (t .exit))
+        (celled (withTwin f (view s (now (t .entry)) .cells) x y) (view s (now (t .entry)))) ⌝ }
 {
     let kind = table::kind_of(s, t, x);
     let elem = table::elem_of(s, t, x);
@@ -26,7 +27,8 @@ fn twin(s: Shape, t: &mut [u32], f: usize, x: usize, y: usize)
 fn copy(s: Shape, t: &mut [u32], x: usize) -> usize
     requires { ⌜ Table s (now t) ⌝ }
     requires { ⌜ Copies (holderCount s) (view s (now t)) x ⌝ }
-    ensures { λ r. ⌜ (r ≡ made (view s (now (t .entry))) x .head) × Shows s (now (t .exit)) (placed (made (view s (now (t .entry))) x) (view s (now (t .entry)))) ⌝ }
+    ensures { λ r. ⌜ (r ≡ made (view s (now (t .entry))) x .head)
+        × Shows s (now (t .exit)) (placed (made (view s (now (t .entry))) x) (view s (now (t .entry)))) ⌝ }
 {
     let mut free = table::free_head(s, t);
     let mut left = x;

@@ -1,11 +1,9 @@
 // CONC: one main level joined after another.
-ghost use mathlib.Core.Path.{_≡_};
 ghost use mathlib.Core.Logic.{_≢_};
-ghost use mathlib.Core.Bool.{false};
 ghost use Prim.Native.Nat.{_<_};
-ghost use lib.ListN.{length};
-ghost use Rattle.pool.specs.Operations.{lastOf, conc, sharedAt};
-ghost use Rattle.pool.specs.Pool.{holder, Sound};
+ghost use Rattle.levels.specs.Joining.{Joins};
+ghost use Rattle.pool.specs.Operations.{conc};
+ghost use Rattle.pool.specs.Pool.{Sound};
 ghost use Rattle.table.specs.View.{holderCount, view, Table, Shows};
 use table::Shape;
 
@@ -14,7 +12,7 @@ pub fn conc(s: Shape, t: &mut [u32], a: usize, b: usize, last: usize)
     requires { ⌜ Table s (now t) ⌝ }
     requires { ⌜ (a < holderCount s) × (b < holderCount s) × (a ≢ b) ⌝ }
     requires { ⌜ Sound (view s (now t)) ⌝ }
-    requires { ⌜ (holder (view s (now t)) b ≢ 0 → (sharedAt (view s (now t)) a ≡ false) × (holder (view s (now t)) a ≢ 0 → last ≡ lastOf (length (view s (now t) .cells)) (view s (now t) .cells) (holder (view s (now t)) a))) ⌝ }
+    requires { ⌜ Joins (view s (now t)) a b last ⌝ }
     ensures { λ r. ⌜ Shows s (now (t .exit)) (conc (view s (now (t .entry))) a b) ⌝ }
 {
     let y = table::holder_of(s, t, b);

@@ -2,19 +2,19 @@
 ghost use mathlib.Core.Path.{_≡_};
 ghost use mathlib.Core.Bool.{false};
 ghost use Prim.Native.Nat.{_<_};
-ghost use lib.ListN.{length};
-ghost use Rattle.pool.specs.Operations.{flip, inv, sharedAt};
+ghost use Rattle.pool.specs.Operations.{inv, sharedAt};
 ghost use Rattle.pool.specs.Pool.{Sound};
 ghost use Rattle.pool.specs.Setters.{celled};
 ghost use Rattle.table.specs.View.{holderCount, view, Table, Shows};
-ghost use Rattle.levels.specs.Turning.{Turns};
+ghost use Rattle.levels.specs.Turning.{turned, Turns};
 use table::Shape;
 
 // Turns the cells from x on round, and gives the new first cell.
 fn turn(s: Shape, t: &mut [u32], x: usize) -> usize
     requires { ⌜ Table s (now t) ⌝ }
     requires { ⌜ Turns (view s (now t)) x ⌝ }
-    ensures { λ r. ⌜ (r ≡ flip (length (view s (now (t .entry)) .cells)) (view s (now (t .entry)) .cells) x 0 .1) × Shows s (now (t .exit)) (celled (flip (length (view s (now (t .entry)) .cells)) (view s (now (t .entry)) .cells) x 0 .0) (view s (now (t .entry)))) ⌝ }
+    ensures { λ r. ⌜ (r ≡ turned (view s (now (t .entry))) x .1)
+        × Shows s (now (t .exit)) (celled (turned (view s (now (t .entry))) x .0) (view s (now (t .entry)))) ⌝ }
 {
     let mut left = x;
     let mut turned = 0;

@@ -1,12 +1,12 @@
 // Walks that only read: the length, the test for shared cells, the test for room, the end of a main level.
 ghost use mathlib.Core.Path.{_≡_};
-ghost use mathlib.Core.Logic.{_≢_};
 ghost use mathlib.Core.Bool.{false};
 ghost use Prim.Native.Nat.{_≤_, _<_};
 ghost use lib.Dec.{leb};
 ghost use lib.ListN.{length};
-ghost use Rattle.pool.specs.Operations.{lastOf, lengthOf, sharedAt};
-ghost use Rattle.pool.specs.Pool.{holder, frees, Sound};
+ghost use Rattle.levels.specs.Joining.{EndsWith};
+ghost use Rattle.pool.specs.Operations.{lengthOf, sharedAt};
+ghost use Rattle.pool.specs.Pool.{frees, Sound};
 ghost use Rattle.table.specs.View.{holderCount, view, Table};
 use table::Shape;
 
@@ -31,7 +31,8 @@ pub fn length(s: Shape, t: &[u32], a: usize) -> usize
     n
 }
 
-// Whether there are as many free cells as cells on the main level: one of each at a time, so that a long free chain costs nothing.
+// Whether there are as many free cells as cells on the main level: one of each at a time, so that a long free chain
+// costs nothing.
 pub fn fits(s: Shape, t: &[u32], a: usize) -> bool
     requires { ⌜ Table s (now t) ⌝ }
     requires { ⌜ a < holderCount s ⌝ }
@@ -55,7 +56,7 @@ pub fn end_of(s: Shape, t: &[u32], a: usize) -> End
     requires { ⌜ Table s (now t) ⌝ }
     requires { ⌜ a < holderCount s ⌝ }
     requires { ⌜ Sound (view s (now t)) ⌝ }
-    ensures { λ r. ⌜ (r .shared ≡ sharedAt (view s (now (t .entry))) a) × (r .shared ≡ false → holder (view s (now (t .entry))) a ≢ 0 → r .last ≡ lastOf (length (view s (now (t .entry)) .cells)) (view s (now (t .entry)) .cells) (holder (view s (now (t .entry))) a)) ⌝ }
+    ensures { λ r. ⌜ EndsWith (view s (now (t .entry))) a (r .shared) (r .last) ⌝ }
 {
     let first = table::holder_of(s, t, a);
     let mut x = first;

@@ -1,4 +1,4 @@
--- What one operation answers, by document 01's numbers: kind and value where it is done, else the number of its refusal.
+-- What one operation answers, in document 01's numbers: kind and value where it is done, else that of its refusal.
 use mathlib.Core.Path.{_≡_}
 use mathlib.Core.Bool.{cond}
 use mathlib.Core.List.{List}

@@ -1,4 +1,5 @@
--- The tests of an operation that look at its words alone, 6 to 8, where there are n holders; and 9 and 10 as DECAP and ADV have them.
+-- The tests of an operation that look at its words alone, 6 to 8, where there are n holders; and 9 and 10 as DECAP and
+-- ADV have them.
 use mathlib.Core.Bool.{Bool, cond, not, _&&_, _||_}
 use Prim.Native.Nat.{ℕ}
 use lib.Dec.{eqb, leb}

@@ -88,7 +88,8 @@ pub record Taking (p : Pool) (n : ℕ) (ws : List ℕ) (e : Peel) : Type 0 where
 
 -- that cell taken off the stack, and its element met
 abbrev pub elementMet : Pool → ℕ → List ℕ → Peel → Peeling
-elementMet p n ws e = meet (arrow (at (p .cells) (e .at))) (taken (p .cells) (stateAt p (e .gone)) (e .at) (below n ws (e .top)))
+elementMet p n ws e =
+    meet (arrow (at (p .cells) (e .at))) (taken (p .cells) (stateAt p (e .gone)) (e .at) (below n ws (e .top)))
 
 pub record ElementMet (p : Pool) (n : ℕ) (ws : List ℕ) (e : Peel) (us : List ℕ) (r : Peel) : Type 0 where
   pub within : Within n ws us

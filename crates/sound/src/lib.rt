@@ -1,5 +1,5 @@
-// Whether a table is sound. Every arrow met takes one off the count of its end; the arrows of a cell are met when its count has
-// run out. Work space: words 0 to N - 1 are the counts that are left, words N to 2 N - 1 the cells that wait.
+// Whether a table is sound. Every arrow met takes one off the count of its end; the arrows of a cell are met when its
+// count has run out. Work space: words 0 to N - 1 are the counts that are left, words N to 2 N - 1 the cells that wait.
 ghost use mathlib.Core.Path.{_≡_};
 ghost use mathlib.Core.Bool.{_&&_};
 ghost use Prim.Native.Nat.{suc, _+_, _*_, _≤_};
@@ -8,11 +8,12 @@ ghost use Rattle.pool.specs.Tally.{same};
 ghost use Rattle.pool.specs.Check.{chained, afterHolders};
 ghost use Rattle.table.specs.View.{view, Table};
 ghost use Rattle.sound.specs.Decided.{Decided, Examined};
-ghost use Rattle.sound.specs.Mirror.{Room, ArrowMet, Stows, Refills, Counted, Copied, stateAt, Shown, Reached, Taking, ElementMet, Peeled};
+ghost use Rattle.sound.specs.Mirror.{Room, ArrowMet, Stows, Refills, Counted, Copied, stateAt};
+ghost use Rattle.sound.specs.Mirror.{Shown, Reached, Taking, ElementMet, Peeled};
 use table::Shape;
 
-// What the work space does not say: whether all went well (1, else 0), the cell at hand (0: none), how many wait, and how many are
-// done. All are words of one size, so that no gaps are copied.
+// What the work space does not say: whether all went well (1, else 0), the cell at hand (0: none), how many wait, and
+// how many are done. All are words of one size, so that no gaps are copied.
 struct Peel {
     ok: usize,
     at: usize,
@@ -230,7 +231,8 @@ fn meet_element(s: Shape, t: &[u32], w: &mut [u32], e: Peel) -> Peel
 fn take_cell(s: Shape, t: &[u32], w: &mut [u32], e: Peel) -> Peel
     requires { ⌜ Table s (now t) ⌝ }
     requires { ⌜ Taking (view s (now t)) (s .cells) (now w) e ⌝ }
-    ensures { λ r. ⌜ Reached (s .cells) (now (w .entry)) (now (w .exit)) r (stateAt (view s (now (t .entry))) (suc (e .gone))) ⌝ }
+    ensures { λ r. ⌜ Reached (s .cells) (now (w .entry)) (now (w .exit)) r
+        (stateAt (view s (now (t .entry))) (suc (e .gone))) ⌝ }
 {
     let n = s.cells;
     let c = e.at;

@@ -56,4 +56,5 @@ step-total m w h l = go (w .here) (l, h .here-high) (h .counted l)
   where
     go : (x : ℕ) → InPool (w .cells) x → 1 ≤ countOf (w .cells) x → total (step (w .free) (w .cells) x (w .waiting) (w .freed) .cells) < total (w .cells)
     go zero i c = absurd (omega (arith, i .0))
-    go (suc i) k c = visit-total (w .free) (w .cells) (suc i) (w .waiting) (w .freed) (countOf (w .cells) (suc i) - 1) (kindOf (w .cells) (suc i)) k (omega arith)
+    go (suc i) k c =
+        visit-total (w .free) (w .cells) (suc i) (w .waiting) (w .freed) (countOf (w .cells) (suc i) - 1) (kindOf (w .cells) (suc i)) k (omega arith)

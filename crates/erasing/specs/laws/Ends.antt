@@ -70,10 +70,12 @@ module _ (r : ℕ → ℕ) (bs : List Cell) where
     small = omega (arith, low (w .here), v .size);
   }
 
-  pub ends : (m k : ℕ) (w : Dropping) (ws : List Wait) → DropInvAt r bs w ws → ((c : ℕ) → countOf (w .cells) c ≤ m) → todo w ws ≤ k → Ends halted stepped (Fine m) k w
+  pub ends : (m k : ℕ) (w : Dropping) (ws : List Wait) → DropInvAt r bs w ws → ((c : ℕ) → countOf (w .cells) c ≤ m) → todo w ws ≤ k
+      → Ends halted stepped (Fine m) k w
   ends m zero w ws v low l = go (step-inv r bs (w .free) (w .cells) (w .here) (w .waiting) (w .freed) ws v)
     where
-      go : ((w .here ≡ 0) × (w .waiting ≡ 0) × (ws ≡ [])) ⊎ ((us : List Wait) × DropInvAt r bs (stepped w) us × (todo (stepped w) us < todo w ws)) → Ends halted stepped (Fine m) zero w
+      go : ((w .here ≡ 0) × (w .waiting ≡ 0) × (ws ≡ [])) ⊎ ((us : List Wait) × DropInvAt r bs (stepped w) us × (todo (stepped w) us < todo w ws))
+          → Ends halted stepped (Fine m) zero w
       go (inl (e, g, q)) = record { turns = 0; runs = stop (halted-yes w e g); short = omega arith }
       go (inr (us, u, d)) = absurd (omega arith)
   ends m (suc k) w ws v low l = go (ends m k (stepped w)) (step-inv r bs (w .free) (w .cells) (w .here) (w .waiting) (w .freed) ws v)
@@ -83,11 +85,17 @@ module _ (r : ℕ → ℕ) (bs : List Cell) where
 
       on : Ends halted stepped (Fine m) k (stepped w) → Dec (w .here ≡ 0) → Dec (w .waiting ≡ 0) → Ends halted stepped (Fine m) (suc k) w
       on d (yes e) (yes g) = record { turns = 0; runs = stop (halted-yes w e g); short = omega arith }
-      on d (yes e) (no n) = record { turns = suc (d .turns); runs = more (halted-wait w e n) (fine m w ws v low) (d .runs); short = omega (arith, d .short) }
+      on d (yes e) (no n) = record {
+        turns = suc (d .turns);
+        runs = more (halted-wait w e n) (fine m w ws v low) (d .runs);
+        short = omega (arith, d .short);
+      }
       on d (no n) g = record { turns = suc (d .turns); runs = more (halted-at w n) (fine m w ws v low) (d .runs); short = omega (arith, d .short) }
 
-      go : ((us : List Wait) → DropInvAt r bs (stepped w) us → ((c : ℕ) → countOf (stepped w .cells) c ≤ m) → todo (stepped w) us ≤ k → Ends halted stepped (Fine m) k (stepped w))
-          → ((w .here ≡ 0) × (w .waiting ≡ 0) × (ws ≡ [])) ⊎ ((us : List Wait) × DropInvAt r bs (stepped w) us × (todo (stepped w) us < todo w ws)) → Ends halted stepped (Fine m) (suc k) w
+      go : ((us : List Wait) → DropInvAt r bs (stepped w) us → ((c : ℕ) → countOf (stepped w .cells) c ≤ m) → todo (stepped w) us ≤ k
+          → Ends halted stepped (Fine m) k (stepped w))
+          → ((w .here ≡ 0) × (w .waiting ≡ 0) × (ws ≡ [])) ⊎ ((us : List Wait) × DropInvAt r bs (stepped w) us × (todo (stepped w) us < todo w ws))
+          → Ends halted stepped (Fine m) (suc k) w
       go ih (inl (e, g, q)) = record { turns = 0; runs = stop (halted-yes w e g); short = omega arith }
       go ih (inr (us, u, d)) = on (ih us u low′ (omega arith)) (ℕ-discrete (w .here) 0) (ℕ-discrete (w .waiting) 0)
 
@@ -96,7 +104,9 @@ unfolding Waits tally
 root-ends m p x h = ends (h .rest) (p .cells) m (most p) (droppingAt p x) []
     (record {
       chained = refl;
-      held = reroot (p .free) (p .cells) (λ c. same x c + h .rest c) none-aside (λ c. same x c + 0 + h .rest c) none-aside (h .held) (λ d n. omega arith) (λ d. refl);
+      held =
+          reroot (p .free) (p .cells) (λ c. same x c + h .rest c) none-aside (λ c. same x c + 0 + h .rest c) none-aside (h .held) (λ d n. omega arith)
+          (λ d. refl);
       kept = λ c l. (l, refl);
       number = omega arith;
       size = refl;
@@ -112,7 +122,9 @@ is-dropped p x = joined (most p) (droppingAt p x)
 pub holder-rooted : (m : ℕ) (p : Pool) (h : ℕ) → Sound p → h < length (p .holders) → length (p .holders) + 2 * length (p .cells) ≤ m → Rooted m p (holder p h)
 holder-rooted m p h s l e = record {
   rest = but (p .holders) h;
-  held = reroot (p .free) (p .cells) (occ (p .holders)) none-aside (λ c. same (holder p h) c + but (p .holders) h c) none-aside (sound-held p s) (λ d n. omega (arith, occ-take (p .holders) h d l n)) (λ d. refl);
+  held =
+      reroot (p .free) (p .cells) (occ (p .holders)) none-aside (λ c. same (holder p h) c + but (p .holders) h c) none-aside (sound-held p s)
+      (λ d n. omega (arith, occ-take (p .holders) h d l n)) (λ d. refl);
   counts = λ c. omega (arith, count-bound p s c);
 }
 

@@ -10,12 +10,14 @@ module _ (p : Pool) (a : ℕ) where
   unfolding pfa
   is-pfa v x y ey ex = rw (ex, ey) refl
 
-  pub is-pfl : (b x y e : ℕ) → y ≡ holder p a → e ≡ holder p b → x ≡ p .free → putHolder b 0 (putHolder a x (putCell x (cell 1 e 1 y) (putFree (nextOf (p .cells) x) p))) ≡ pfl p a b
+  pub is-pfl : (b x y e : ℕ) → y ≡ holder p a → e ≡ holder p b → x ≡ p .free
+      → putHolder b 0 (putHolder a x (putCell x (cell 1 e 1 y) (putFree (nextOf (p .cells) x) p))) ≡ pfl p a b
   unfolding pfl
   is-pfl b x y e ey ee ex = rw (ex, ey, ee) refl
 
   module _ (b x : ℕ) (ex : x ≡ holder p a) where
-    pub is-decap : (s e : ℕ) → s ≡ nextOf (p .cells) x → e ≡ item (p .cells) x → putHolder b e (putHolder a s (putFree x (putNext x (p .free) (putCount x 0 p)))) ≡ decap p a b
+    pub is-decap : (s e : ℕ) → s ≡ nextOf (p .cells) x → e ≡ item (p .cells) x
+        → putHolder b e (putHolder a s (putFree x (putNext x (p .free) (putCount x 0 p)))) ≡ decap p a b
     unfolding decap
     is-decap s e es ee = rw (es, ee, ex) refl
 

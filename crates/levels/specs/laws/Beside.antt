@@ -45,7 +45,8 @@ module _ (p : Pool) (a : ℕ) where
   unfolding Chain tally
   pair x f nx nf b = go (b .chain) (b .links) (b .inside) (b .level)
     where
-      go : (fs : List ℕ) → Chain (p .cells) f fs → ((c : ℕ) → 0 < occ fs c → InPool (p .cells) c) → lengthOf p a + length fs ≡ frees (p .cells) + span (length (p .cells)) (p .cells) x → Pair x f
+      go : (fs : List ℕ) → Chain (p .cells) f fs → ((c : ℕ) → 0 < occ fs c → InPool (p .cells) c)
+          → lengthOf p a + length fs ≡ frees (p .cells) + span (length (p .cells)) (p .cells) x → Pair x f
       go [] k i e = absurd (nf k)
       go (g ∷ gs) k i e =
           let o = onward (p .cells) x nx (b .left) in
@@ -69,6 +70,7 @@ module _ (p : Pool) (a : ℕ) where
   unfolding Chain
   too-few x f nx e b = go (b .chain) (b .links) (b .level)
     where
-      go : (fs : List ℕ) → Chain (p .cells) f fs → lengthOf p a + length fs ≡ frees (p .cells) + span (length (p .cells)) (p .cells) x → false ≡ leb (lengthOf p a) (frees (p .cells))
+      go : (fs : List ℕ) → Chain (p .cells) f fs → lengthOf p a + length fs ≡ frees (p .cells) + span (length (p .cells)) (p .cells) x
+          → false ≡ leb (lengthOf p a) (frees (p .cells))
       go [] k q = sym (lt-leb (lengthOf p a) (frees (p .cells)) (omega (arith, onward (p .cells) x nx (b .left) .longer)))
       go (g ∷ gs) k q = absurd (k .1 (sym (k .0) ∙ e))

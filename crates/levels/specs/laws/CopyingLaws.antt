@@ -45,7 +45,8 @@ share-next cs (suc i) zero = refl
 share-next cs (suc i) (suc j) = counted-next cs i j (suc (countOf cs (suc i)))
 
 -- a new cell with the fields that the code has read
-pub is-twin : (p : Pool) (f x y : ℕ) {k e i : ℕ} → k ≡ kindOf (p .cells) x → e ≡ elemOf (p .cells) x → i ≡ item (p .cells) x → putCell f (cell k e 1 y) (celled (share (p .cells) i) p) ≡ celled (withTwin f (p .cells) x y) p
+pub is-twin : (p : Pool) (f x y : ℕ) {k e i : ℕ} → k ≡ kindOf (p .cells) x → e ≡ elemOf (p .cells) x → i ≡ item (p .cells) x
+    → putCell f (cell k e 1 y) (celled (share (p .cells) i) p) ≡ celled (withTwin f (p .cells) x y) p
 is-twin p f x y ek ee ei = λ j. putCell f (cell (ek j) (ee j) 1 y) (celled (share (p .cells) (ei j)) p)
 
 level-grown : (cs ds : List Cell) → Kept ds cs → (n c : ℕ) → Level n cs c → Level n ds c
@@ -56,7 +57,8 @@ level-grown cs ds k (suc n) c h =
     (l, subst (Level n ds) (ap (λ x. x .next) e) (level-grown cs ds k n (nextOf cs c) (h .1)))
 
 module _ (m : ℕ) (r : ℕ → ℕ) (few : (d : ℕ) → r d ≤ m) where
-  copyable : (f : ℕ) (cs : List Cell) (x y : ℕ) → Held f cs (λ d. same y d + r d) none-aside → y ≤ length cs → Live cs x → lives cs < length cs → Copyable m cs f x y
+  copyable : (f : ℕ) (cs : List Cell) (x y : ℕ) → Held f cs (λ d. same y d + r d) none-aside → y ≤ length cs → Live cs x → lives cs < length cs
+      → Copyable m cs f x y
   copyable f cs x y h ly lx lt =
       let rs : ℕ → ℕ = λ d. same y d + r d in
       let n : f ≢ 0 = room f cs rs h lt in
@@ -69,7 +71,8 @@ module _ (m : ℕ) (r : ℕ → ℕ) (few : (d : ℕ) → r d ≤ m) where
         more = λ q. omega (arith, h .law (item cs x) q, few (item cs x), same-le y (item cs x), into-lives cs (item cs x));
       }
 
-  copies : (n f : ℕ) (cs : List Cell) (x y : ℕ) → n + lives cs ≤ length cs → Held f cs (λ d. same y d + r d) none-aside → y ≤ length cs → Level n cs x → Runs over moved (Sure m) n (copying cs f x y)
+  copies : (n f : ℕ) (cs : List Cell) (x y : ℕ) → n + lives cs ≤ length cs → Held f cs (λ d. same y d + r d) none-aside → y ≤ length cs → Level n cs x
+      → Runs over moved (Sure m) n (copying cs f x y)
   unfolding Level moved
   copies zero f cs x y lt h ly w = stop (eq-eqb x 0 w)
   copies (suc n) f cs x y lt h ly w =
@@ -78,7 +81,8 @@ module _ (m : ℕ) (r : ℕ → ℕ) (few : (d : ℕ) → r d ≤ m) where
       let ok = copyable f cs x y h ly (w .0) (omega arith) in
       more (ne-eqb x 0 (omega (arith, ok .here)))
       ok
-      (copies n (nextOf (share cs (item cs x)) f) ds (nextOf cs x) f (omega (arith, t .up, t .long)) (t .held) (omega (arith, ok .free, t .long)) (level-grown cs ds (t .grown) n (nextOf cs x) (w .1)))
+      (copies n (nextOf (share cs (item cs x)) f) ds (nextOf cs x) f (omega (arith, t .up, t .long)) (t .held) (omega (arith, ok .free, t .long))
+      (level-grown cs ds (t .grown) n (nextOf cs x) (w .1)))
 
 -- the loop is the one that CINV is defined by
 pub is-copy : (k f : ℕ) (cs : List Cell) (x y : ℕ) → copy k f cs x y ≡ told (run over moved k (copying cs f x y))
@@ -87,7 +91,8 @@ is-copy zero f cs x y = refl
 is-copy (suc k) f cs x y = go (ℕ-discrete x 0) (is-copy k (nextOf (share cs (item cs x)) f) (withTwin f cs x y) (nextOf cs x) f)
   where
     go : Dec (x ≡ 0)
-        → copy k (nextOf (share cs (item cs x)) f) (withTwin f cs x y) (nextOf cs x) f ≡ told (run over moved k (copying (withTwin f cs x y) (nextOf (share cs (item cs x)) f) (nextOf cs x) f))
+        → copy k (nextOf (share cs (item cs x)) f) (withTwin f cs x y) (nextOf cs x) f
+        ≡ told (run over moved k (copying (withTwin f cs x y) (nextOf (share cs (item cs x)) f) (nextOf cs x) f))
         → copy (suc k) f cs x y ≡ told (run over moved (suc k) (copying cs f x y))
     go (yes e) ih = copy-end (suc k) f cs x y e ∙ ap told (sym (run-halt over moved (suc k) (copying cs f x y) (eq-eqb x 0 e)))
     go (no n) ih = copy-next k f cs x y n ∙ ih ∙ ap told (sym (run-go over moved k (copying cs f x y) (ne-eqb x 0 n)))
@@ -106,9 +111,12 @@ module _ (p : Pool) (a b : ℕ) (s : Sound p) (lb : b < length (p .holders)) (nb
       record {
         ends = record {
           turns = len l;
-          runs = copies (length (p .holders)) (occ (p .holders)) (λ d. omega (arith, tally-le (λ u. same u d) 1 (p .holders) (λ u. same-le u d))) (len l) (p .free) (p .cells) (holder p a) 0
+          runs =
+              copies (length (p .holders)) (occ (p .holders)) (λ d. omega (arith, tally-le (λ u. same u d) 1 (p .holders) (λ u. same-le u d))) (len l) (p .free)
+              (p .cells) (holder p a) 0
               (omega (arith, length-is p a l s w, frees-lives (p .cells), fits))
-              (reroot (p .free) (p .cells) (occ (p .holders)) none-aside (λ d. same 0 d + occ (p .holders) d) none-aside h (λ d n. omega (arith, same-ne 0 d (λ q. n (sym q)))) (λ d. refl))
+              (reroot (p .free) (p .cells) (occ (p .holders)) none-aside (λ d. same 0 d + occ (p .holders) d) none-aside h
+              (λ d n. omega (arith, same-ne 0 d (λ q. n (sym q)))) (λ d. refl))
               (omega arith) (list-level (p .cells) l (holder p a) w);
           short = len-le (p .free) (p .cells) (occ (p .holders)) none-aside h l (holder p a) w;
         };
@@ -118,7 +126,9 @@ module _ (p : Pool) (a b : ℕ) (s : Sound p) (lb : b < length (p .holders)) (nb
   -- the first cell of the copy is in range
   pub head-top : made p (holder p a) .head ≤ length (made p (holder p a) .cells)
   unfolding cinv
-  head-top = subst (λ u. u ≤ length (made p (holder p a) .cells)) (getD-set-same (p .holders) b (made p (holder p a) .head) 0 lb) (ranged (cinv p a b) sound-after .holders-top b)
+  head-top =
+      subst (λ u. u ≤ length (made p (holder p a) .cells)) (getD-set-same (p .holders) b (made p (holder p a) .head) 0 lb)
+      (ranged (cinv p a b) sound-after .holders-top b)
 
 pub is-cinv : (p : Pool) (a b : ℕ) → putHolder b (made p (holder p a) .head) (placed (made p (holder p a)) p) ≡ cinv p a b
 unfolding cinv

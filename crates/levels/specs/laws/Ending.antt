@@ -3,6 +3,7 @@ use mathlib.Core.Path.{_≡_, refl, sym, _∙_}
 use mathlib.Core.Logic.{_≢_}
 use Prim.Native.Nat.{ℕ, _≤_}
 use lib.ListN.{length}
+use Rattle.levels.specs.Joining.{lastCell}
 use Rattle.pool.specs.laws.Level.{Left, Onward, all-left}
 use Rattle.pool.specs.Operations.{lastOf, anyShared, sharedAt}
 use Rattle.pool.specs.Pool.{Pool, countOf, nextOf, holder, Sound}
@@ -11,8 +12,8 @@ use Rattle.pool.specs.Pool.{Pool, countOf, nextOf, holder, Sound}
 pub record Ending (p : Pool) (a x z : ℕ) : Type 0 where
   pub left : Left (p .cells) x
   pub shared : anyShared (length (p .cells)) (p .cells) x ≡ sharedAt p a
-  pub ahead : x ≢ 0 → lastOf (length (p .cells)) (p .cells) x ≡ lastOf (length (p .cells)) (p .cells) (holder p a)
-  pub reached : x ≡ 0 → holder p a ≢ 0 → z ≡ lastOf (length (p .cells)) (p .cells) (holder p a)
+  pub ahead : x ≢ 0 → lastOf (length (p .cells)) (p .cells) x ≡ lastCell p a
+  pub reached : x ≡ 0 → holder p a ≢ 0 → z ≡ lastCell p a
 
 module _ (p : Pool) (a : ℕ) where
   pub ending : (z : ℕ) → Sound p → Ending p a (holder p a) z

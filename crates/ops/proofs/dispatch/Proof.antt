@@ -122,7 +122,8 @@ returns-11 c =
     let r = at-match .match .rest in
     let l = r .0 .0 .0 .0 .0 in
     let six = above _ 5 (above _ 4 (above _ 3 (above _ 2 (above _ 1 (k .0) (l .0 .0 .0 .0 .1)) (l .0 .0 .0 .1)) (l .0 .0 .1)) (l .0 .1)) (l .1) in
-    let e = just _ 11 (above _ 10 (above _ 9 (above _ 8 (above _ 7 (above _ 6 six (r .0 .0 .0 .0 .1)) (r .0 .0 .0 .1)) (r .0 .0 .1)) (r .0 .1)) (r .1)) (k .1) in
+    let ten = above _ 9 (above _ 8 (above _ 7 (above _ 6 six (r .0 .0 .0 .0 .1)) (r .0 .0 .0 .1)) (r .0 .0 .1)) (r .0 .1) in
+    let e = just _ 11 (above _ 10 ten (r .1)) (k .1) in
     rw e (c .before .before .length .ensures _ _)
 
 pub dispatch-spec : {M : Type 1} → statement M

@@ -2,7 +2,7 @@
 use mathlib.Core.Path.{_≡_, refl}
 use mathlib.Core.Bool.{false}
 use mathlib.Core.List.{List}
-use Prim.Native.Nat.{ℕ, zero, suc, _<_}
+use Prim.Native.Nat.{ℕ, _<_}
 use native.Mathlib.Omega.{arith}
 use package.borrow.Author.Tests.{ne-eqb}
 use lib.Dec.{eqb}
@@ -12,8 +12,7 @@ use Rattle.heads.specs.declared.Told.{Told}
 use Rattle.ops.specs.declared.Reply.{Reply}
 use Rattle.ops.specs.declared.Reply.the-variants.{Done, Refused}
 use Rattle.ops.specs.Replies.{said, reply, Gives}
-use Rattle.pool.specs.Operations.{concAt, conc}
-use Rattle.pool.specs.Pool.{Pool, holder}
+use Rattle.pool.specs.Pool.{Pool}
 use Rattle.pool.specs.Script.{Operation, refusal, effect, tellsFirst, poolAfter}
 use Rattle.table.specs.View.{view, Table, Shows}
 use Rattle.table.specs.declared.Shape.{Shape}
@@ -25,19 +24,11 @@ refuses o k t e l =
     let n : eqb k DONE ≡ false = ne-eqb k DONE (omega arith) in
     record { table = t; is = rw (e, n) refl; told = rw (e, n) refl }
 
-pub does : {s : Shape} {ws : List ℕ} {r : Reply} (p : Pool) (o : Operation) → refusal p o ≡ DONE → Shows s ws (effect p o .pool) → r ≡ said (effect p o) → Gives s ws r p o
+pub does : {s : Shape} {ws : List ℕ} {r : Reply} (p : Pool) (o : Operation) → refusal p o ≡ DONE → Shows s ws (effect p o .pool) → r ≡ said (effect p o)
+    → Gives s ws r p o
 unfolding reply poolAfter
 does p o e h q = record { table = h .table; is = rw e (h .is); told = rw e q }
 
 -- the first element as result words
 pub first-said : {e : Told} (p : Pool) (a : ℕ) → FirstTold p a e → Done (e .kind) (e .value) ≡ said (tellsFirst p a p)
 first-said p a h = λ i. Done (h .kind i) (h .value i)
-
--- CONC of a null b leaves the pool as it is
-pub conc-null : (p : Pool) (a b : ℕ) → holder p b ≡ 0 → conc p a b ≡ p
-unfolding conc concAt
-conc-null p a b e = go (holder p a) (holder p b) e
-  where
-    go : (x y : ℕ) → y ≡ 0 → concAt p a b x y ≡ p
-    go x zero q = refl
-    go x (suc j) q = absurd (omega arith)

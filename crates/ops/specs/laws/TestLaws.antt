@@ -52,7 +52,8 @@ parts p a b e =
     let (vacant, e11) = not-refused (not (eqb (holder p b) 0)) OCCUPIED DONE (omega arith) e10 in
     record { filled = eqb-false (holder p a) 0 filled; vacant = eqb-true (holder p b) 0 (not-false _ vacant) }
 
-module _ (p : Pool) (o : Operation) (h : Opened p o) (nulls : nullList p o ≡ eqb (holder p (o .a)) 0) (fills : occupied p o ≡ not (eqb (holder p (o .b)) 0)) where
+module _ (p : Pool) (o : Operation) (h : Opened p o) (nulls : nullList p o ≡ eqb (holder p (o .a)) 0)
+    (fills : occupied p o ≡ not (eqb (holder p (o .b)) 0)) where
   pub says-parting : parting p (o .a) (o .b) ≢ DONE → refusal p o ≡ parting p (o .a) (o .b)
   unfolding parting
   says-parting n = go (eqb (holder p (o .a)) 0) (not (eqb (holder p (o .b)) 0)) nulls fills n

@@ -52,7 +52,8 @@ module _ (p : Pool) (o : Operation) where
   unfolding early refusal
   early-refused n = go (badCode o) (badHolder p o) (sameHolder o) _ n
     where
-      go : (x y z : Bool) (m : ℕ) → cond x CODE (cond y HOLDER (cond z SAME DONE)) ≢ DONE → cond x CODE (cond y HOLDER (cond z SAME m)) ≡ cond x CODE (cond y HOLDER (cond z SAME DONE))
+      go : (x y z : Bool) (m : ℕ) → cond x CODE (cond y HOLDER (cond z SAME DONE)) ≢ DONE
+          → cond x CODE (cond y HOLDER (cond z SAME m)) ≡ cond x CODE (cond y HOLDER (cond z SAME DONE))
       go true y z m h = refl
       go false true z m h = refl
       go false false true m h = refl

@@ -6,8 +6,6 @@ use Rattle.pool.specs.Check.{chained}
 use Rattle.table.specs.View.{view}
 use Rattle.sound.specs.laws.ChainLaws.{stop-far, stop-live, stop-long, go-on, at-end}
 use borrow.Author.Needs.{needs}
-use borrow.Author.Needs.{needs}
-use borrow.Author.Needs.{needs}
 use Rattle.sound.proofs.chain_holds.Statement.{statement}
 use Rattle.sound.proofs.chain_holds.Tie as tie
 

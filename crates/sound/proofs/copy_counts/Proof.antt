@@ -7,8 +7,6 @@ use Rattle.table.specs.View.{view}
 use Rattle.sound.specs.Mirror.{Copied}
 use Rattle.sound.specs.laws.CopyLaws.{Copying, copy-start, copy-step, copy-end}
 use borrow.Author.Needs.{needs}
-use borrow.Author.Needs.{needs}
-use borrow.Author.Needs.{needs}
 use Rattle.sound.proofs.copy_counts.Statement.{statement}
 use Rattle.sound.proofs.copy_counts.Tie as tie
 

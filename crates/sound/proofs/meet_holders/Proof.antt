@@ -7,8 +7,6 @@ use Rattle.table.specs.View.{holderCount, view}
 use Rattle.sound.specs.Mirror.{Shown}
 use Rattle.sound.specs.laws.HolderLaws.{Meeting, holders-start, holders-room, holders-step, holders-end}
 use borrow.Author.Needs.{needs}
-use borrow.Author.Needs.{needs}
-use borrow.Author.Needs.{needs}
 use Rattle.sound.proofs.meet_holders.Statement.{statement}
 use Rattle.sound.proofs.meet_holders.Tie as tie
 

@@ -37,7 +37,8 @@ pub stop-long : (left : ℕ) (cs : List Cell) (x : ℕ) → x ≢ 0 → left ≡
 unfolding chained
 stop-long left cs x n e = rw e (ne-eqb x 0 n)
 
-pub go-on : (left : ℕ) (cs : List Cell) (x r : ℕ) → x ≢ 0 → x ≤ length cs → r ≡ countOf cs x → r ≡ 0 → left ≢ 0 → chained (left - 1) cs (nextOf cs x) ≡ chained left cs x
+pub go-on : (left : ℕ) (cs : List Cell) (x r : ℕ) → x ≢ 0 → x ≤ length cs → r ≡ countOf cs x → r ≡ 0 → left ≢ 0
+    → chained (left - 1) cs (nextOf cs x) ≡ chained left cs x
 unfolding chained
 go-on zero cs x r n l e z s = absurd (s refl)
 go-on (suc k) cs x r n l e z s =

@@ -26,7 +26,8 @@ pub copy-start : (n : ℕ) (cs : List Cell) (ws : List ℕ) → Copying n cs ws 
 unfolding upto
 copy-start n cs ws = record { within = within-self n ws; counts = λ j l. absurd (omega arith); number = refl; low = omega arith; few = omega arith }
 
-pub copy-step : (n : ℕ) (cs : List Cell) (ws us : List ℕ) (i free r k : ℕ) → n + n ≤ length ws → i < n → Copying n cs ws us i free → r ≡ countOf cs (i + 1) → k ≡ same r 0 → Copying n cs ws (set us i r) (i + 1) (free + k)
+pub copy-step : (n : ℕ) (cs : List Cell) (ws us : List ℕ) (i free r k : ℕ) → n + n ≤ length ws → i < n → Copying n cs ws us i free → r ≡ countOf cs (i + 1)
+    → k ≡ same r 0 → Copying n cs ws (set us i r) (i + 1) (free + k)
 unfolding upto
 copy-step n cs ws us i free r k long l g e q =
     let e′ : r ≡ countOf cs (suc i) = rw add-one at e in

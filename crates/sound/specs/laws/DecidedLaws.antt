@@ -30,16 +30,20 @@ frees-few cs = omega (arith, frees-lives cs)
 
 module _ (s : Shape) (ts ws us vs zs : List ℕ) (free : ℕ) (e : Peel) (a b r : Bool) (len : length (view s ts .cells) ≡ s .cells)
     (c : Copied (s .cells) (view s ts .cells) ws us free) (k : Peeled (s .cells) (view s ts) us vs e) where
-  is-tested : a ≡ chained free (view s ts .cells) (view s ts .free) → b ≡ (eqb (e .ok) 1 && eqb (e .gone + free) (s .cells)) → r ≡ (a && b) → r ≡ tested (e .gone) (view s ts)
+  is-tested : a ≡ chained free (view s ts .cells) (view s ts .free) → b ≡ (eqb (e .ok) 1 && eqb (e .gone + free) (s .cells)) → r ≡ (a && b)
+      → r ≡ tested (e .gone) (view s ts)
   unfolding peeled?
   is-tested ae be re = rw (len, ← c .number, ← k .shown .shows .ok, ← k .shown .shows .gone) (rw (re, be, ae))
 
-  pub decided : a ≡ chained free (view s ts .cells) (view s ts .free) → b ≡ (eqb (e .ok) 1 && eqb (e .gone + free) (s .cells)) → r ≡ (a && b) → zs ≡ cleared (2 * s .cells) vs → Decided s ts ws zs r
+  pub decided : a ≡ chained free (view s ts .cells) (view s ts .free) → b ≡ (eqb (e .ok) 1 && eqb (e .gone + free) (s .cells)) → r ≡ (a && b)
+      → zs ≡ cleared (2 * s .cells) vs → Decided s ts ws zs r
   decided ae be re ze =
       let p : Pool = view s ts in
       let n : ℕ = s .cells in
       let v : r ≡ tested (e .gone) p = is-tested ae be re in
-      let answer : r ≡ check p = v ∙ same-bool (tested (e .gone) p) (check p) (tested-sound (e .gone) p (k .ended), sound-tested (e .gone) p (k .ended)) (check-decides p) in
+      let there = tested-sound (e .gone) p (k .ended) in
+      let back = sound-tested (e .gone) p (k .ended) in
+      let answer : r ≡ check p = v ∙ same-bool (tested (e .gone) p) (check p) (there, back) (check-decides p) in
       let w : Within n ws vs = within-then (c .within) (k .shown .within) in
       let q : n + n ≡ 2 * n = omega arith in
       record {

@@ -19,7 +19,8 @@ pub record Meeting (p : Pool) (n : ℕ) (ws us : List ℕ) (e : Peel) (h : ℕ) 
   pub none : e .at ≡ 0
   pub low : h ≤ length (p .holders)
 
-pub holders-start : (p : Pool) (n : ℕ) (ws : List ℕ) (e : Peel) → e ≡ record { ok = 1; at = 0; top = 0; gone = 0 } → length (p .cells) ≡ n → Counted n ws (p .cells) → Meeting p n ws ws e 0
+pub holders-start : (p : Pool) (n : ℕ) (ws : List ℕ) (e : Peel) → e ≡ record { ok = 1; at = 0; top = 0; gone = 0 } → length (p .cells) ≡ n
+    → Counted n ws (p .cells) → Meeting p n ws ws e 0
 unfolding named below onTop
 holders-start p n ws e q len k = rw q (record {
   shown = record { within = within-self n ws; shows = record { ok = refl; gone = refl; stack = refl; size = len; counts = k } };
@@ -27,7 +28,8 @@ holders-start p n ws e q len k = rw q (record {
   low = omega arith;
 })
 
-module _ (p : Pool) (n : ℕ) (ws us : List ℕ) (e : Peel) (h : ℕ) (len : length (p .cells) ≡ n) (few : n < 65536) (long : n + n ≤ length ws) (g : Meeting p n ws us e h) (l : h < length (p .holders))
+module _ (p : Pool) (n : ℕ) (ws us : List ℕ) (e : Peel) (h : ℕ) (len : length (p .cells) ≡ n) (few : n < 65536) (long : n + n ≤ length ws)
+    (g : Meeting p n ws us e h) (l : h < length (p .holders))
     (x : ℕ) (vs : List ℕ) (f : Peel) (xe : x ≡ getD (p .holders) h 0) (d : ArrowMet n x us e vs f) where
   met : Mirrors n vs f (named (suc h) (p .holders) (unmet (p .cells)))
   unfolding named
@@ -35,12 +37,16 @@ module _ (p : Pool) (n : ℕ) (ws us : List ℕ) (e : Peel) (h : ℕ) (len : len
 
   pub holders-room : Room n vs f
   holders-room =
-      room (p .cells) (occ (p .holders)) (occ (drop (suc h) (p .holders))) (named (suc h) (p .holders) (unmet (p .cells))) n vs f (named-inv (suc h) (p .cells) (p .holders) l) met len few
+      room (p .cells) (occ (p .holders)) (occ (drop (suc h) (p .holders))) (named (suc h) (p .holders) (unmet (p .cells))) n vs f
+      (named-inv (suc h) (p .cells) (p .holders) l) met len few
       (omega (arith, d .within .size, g .shown .within .size))
 
   pub holders-step : (zs : List ℕ) (r : Peel) → Stows n vs f zs r → Meeting p n ws zs r (h + 1)
   holders-step zs r b = rw (add-one h) (record {
-    shown = record { within = within-then (g .shown .within) (within-then (d .within) (b .within)); shows = b .shows (named (suc h) (p .holders) (unmet (p .cells))) met };
+    shown = record {
+      within = within-then (g .shown .within) (within-then (d .within) (b .within));
+      shows = b .shows (named (suc h) (p .holders) (unmet (p .cells))) met;
+    };
     none = b .none;
     low = l;
   })

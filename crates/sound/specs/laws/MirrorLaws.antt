@@ -67,11 +67,13 @@ within-self n ws = record { size = refl; rest = refl }
 pub within-then : {n : ℕ} {ws us vs : List ℕ} → Within n ws us → Within n us vs → Within n ws vs
 within-then a b = record { size = b .size ∙ a .size; rest = b .rest ∙ a .rest }
 
-counts-set : (n : ℕ) (ws : List ℕ) (ds : List Cell) (j v : ℕ) → j < n → n ≤ length ws → length ds ≡ n → Counted n ws ds → Counted n (set ws j v) (setCount ds (suc j) v)
+counts-set : (n : ℕ) (ws : List ℕ) (ds : List Cell) (j v : ℕ) → j < n → n ≤ length ws → length ds ≡ n → Counted n ws ds
+    → Counted n (set ws j v) (setCount ds (suc j) v)
 counts-set n ws ds j v l long e h i m = go (ℕ-discrete i j)
   where
     go : Dec (i ≡ j) → getD (set ws j v) i 0 ≡ countOf (setCount ds (suc j) v) (suc i)
-    go (yes q) = rw q (getD-set-same ws j v 0 (omega arith) ∙ sym (ap (λ x. x .count) (put-same ds (suc j) (counted (at ds (suc j)) v) (omega arith) (omega arith))))
+    go (yes q) =
+        rw q (getD-set-same ws j v 0 (omega arith) ∙ sym (ap (λ x. x .count) (put-same ds (suc j) (counted (at ds (suc j)) v) (omega arith) (omega arith))))
     go (no q) = getD-set-other ws j i v 0 q ∙ h i m ∙ sym (ap (λ x. x .count) (put-other ds (suc j) (suc i) (counted (at ds (suc j)) v) (omega arith)))
 
 -- the ways through follow
@@ -88,7 +90,8 @@ follow-null n x ws e z = record { within = within-self n ws; shows = λ st m. su
 abbrev failed : Peel → Peel
 failed e = record { ok = 0; at = 0; top = e .top; gone = e .gone }
 
-bad : (n x : ℕ) (ws : List ℕ) (e : Peel) → e .at ≡ 0 → 0 < x → ((st : Peeling) → Mirrors n ws e st → countOf (st .cells) x ≡ 0) → ArrowMet n x ws e ws (failed e)
+bad : (n x : ℕ) (ws : List ℕ) (e : Peel) → e .at ≡ 0 → 0 < x → ((st : Peeling) → Mirrors n ws e st → countOf (st .cells) x ≡ 0)
+    → ArrowMet n x ws e ws (failed e)
 unfolding lowered onTop
 bad n x ws e z l f = record {
   within = within-self n ws;
@@ -106,7 +109,8 @@ word n (suc i) ws e st l h m = let q : suc i - 1 ≡ i = omega arith in rw q (m 
 pub follow-free : (n x : ℕ) (ws : List ℕ) (e : Peel) → e .at ≡ 0 → 0 < x → x ≤ n → getD ws (x - 1) 0 ≡ 0 → ArrowMet n x ws e ws (failed e)
 follow-free n x ws e z l h q = bad n x ws e z l (λ st m. sym (word n x ws e st l h m) ∙ q)
 
-pub follow-one : (n x : ℕ) (ws : List ℕ) (e : Peel) → 0 < x → x ≤ n → n + n ≤ length ws → 1 < getD ws (x - 1) 0 → ArrowMet n x ws e (set ws (x - 1) (getD ws (x - 1) 0 - 1)) e
+pub follow-one : (n x : ℕ) (ws : List ℕ) (e : Peel) → 0 < x → x ≤ n → n + n ≤ length ws → 1 < getD ws (x - 1) 0
+    → ArrowMet n x ws e (set ws (x - 1) (getD ws (x - 1) 0 - 1)) e
 unfolding lowered
 follow-one n zero ws e l h long big = absurd (omega arith)
 follow-one n (suc i) ws e l h long big =
@@ -137,7 +141,8 @@ follow-last n (suc i) ws e z l h long one =
     let v : getD ws i 0 - 1 ≡ 0 = omega arith in
     rw (q, v) (record { within = within-set n ws i 0 (omega arith); shows = λ st m. go st m one′ })
   where
-    go : (st : Peeling) → Mirrors n ws e st → getD ws i 0 ≡ 1 → Mirrors n (set ws i 0) (record { ok = e .ok; at = suc i; top = e .top; gone = e .gone }) (meet (suc i) st)
+    go : (st : Peeling) → Mirrors n ws e st → getD ws i 0 ≡ 1
+        → Mirrors n (set ws i 0) (record { ok = e .ok; at = suc i; top = e .top; gone = e .gone }) (meet (suc i) st)
     go st m one′ =
         rw (meet-as (suc i) 1 st (omega arith) (sym (m .counts i h) ∙ one′)) (record {
           ok = m .ok;
@@ -149,7 +154,8 @@ follow-last n (suc i) ws e z l h long one =
 
 -- the ways through stow and refill: the state stays
 
-pub stow-some : (n : ℕ) (ws : List ℕ) (e : Peel) → Room n ws e → e .at ≢ 0 → Stows n ws e (set ws (n + e .top) (e .at)) (record { ok = e .ok; at = 0; top = e .top + 1; gone = e .gone })
+pub stow-some : (n : ℕ) (ws : List ℕ) (e : Peel) → Room n ws e → e .at ≢ 0
+    → Stows n ws e (set ws (n + e .top) (e .at)) (record { ok = e .ok; at = 0; top = e .top + 1; gone = e .gone })
 unfolding onTop
 stow-some n ws e r s =
     let l : e .top < n = r .more s in
@@ -159,7 +165,9 @@ stow-some n ws e r s =
       shows = λ st m. record {
         ok = m .ok;
         gone = m .gone;
-        stack = ap (below n (set ws (n + e .top) (e .at))) (add-one (e .top)) ∙ below-push n ws (e .top) (e .at) (omega (arith, r .long)) ∙ sym (onTop-some (e .at) (below n ws (e .top)) s) ∙ m .stack;
+        stack =
+            ap (below n (set ws (n + e .top) (e .at))) (add-one (e .top)) ∙ below-push n ws (e .top) (e .at) (omega (arith, r .long))
+            ∙ sym (onTop-some (e .at) (below n ws (e .top)) s) ∙ m .stack;
         size = m .size;
         counts = λ j k. getD-set-other ws (n + e .top) j (e .at) 0 (omega arith) ∙ m .counts j k;
       };
@@ -172,7 +180,8 @@ pub refill-empty : (n : ℕ) (ws : List ℕ) (e : Peel) → e .at ≡ 0 → e .t
 unfolding below
 refill-empty n ws e s q st m z = record { shows = m; rests = λ _. sym (idle m s) ∙ ap (below n ws) q }
 
-pub refill-top : (n : ℕ) (ws : List ℕ) (e : Peel) → e .at ≡ 0 → e .top ≢ 0 → Refills n ws e (record { ok = e .ok; at = getD ws (n + (e .top - 1)) 0; top = e .top - 1; gone = e .gone })
+pub refill-top : (n : ℕ) (ws : List ℕ) (e : Peel) → e .at ≡ 0 → e .top ≢ 0
+    → Refills n ws e (record { ok = e .ok; at = getD ws (n + (e .top - 1)) 0; top = e .top - 1; gone = e .gone })
 unfolding tally
 refill-top n ws e s q st m z =
     let c : ℕ = getD ws (n + (e .top - 1)) 0 in

@@ -21,18 +21,21 @@ unfolding named
 named-gone zero hs s = refl
 named-gone (suc k) hs s = meet-gone (getD hs k 0) (named k hs s) ∙ named-gone k hs s
 
-module _ (p : Pool) (n : ℕ) (ws us : List ℕ) (e : Peel) (len : length (p .cells) ≡ n) (few : n < 65536) (long : n + n ≤ length ws) (s : Shown n ws us e (afterHolders p)) where
+module _ (p : Pool) (n : ℕ) (ws us : List ℕ) (e : Peel) (len : length (p .cells) ≡ n) (few : n < 65536) (long : n + n ≤ length ws)
+    (s : Shown n ws us e (afterHolders p)) where
   pub start-room : Room n us e
   start-room = room (p .cells) (occ (p .holders)) (λ d. 0) (afterHolders p) n us e (holders-inv p) (s .shows) len few (omega (arith, s .within .size))
 
   pub peel-start : (f : Peel) → Refills n us e f → Reached n us us f (stateAt p (f .gone))
   unfolding turns
   peel-start f q =
-      let r : Refilled n us f (afterHolders p) = q (afterHolders p) (s .shows) (none-null (p .cells) (occ (p .holders)) (λ d. 0) (afterHolders p) (holders-inv p)) in
+      let none = none-null (p .cells) (occ (p .holders)) (λ d. 0) (afterHolders p) (holders-inv p) in
+      let r : Refilled n us f (afterHolders p) = q (afterHolders p) (s .shows) none in
       let z : f .gone ≡ 0 = r .shows .gone ∙ named-gone (length (p .holders)) (p .holders) (unmet (p .cells)) in
       record { within = within-self n us; refilled = subst (λ k. Refilled n us f (stateAt p k)) (sym z) r }
 
-module _ (p : Pool) (n : ℕ) (ws us : List ℕ) (e : Peel) (len : length (p .cells) ≡ n) (few : n < 65536) (long : n + n ≤ length ws) (r : Reached n ws us e (stateAt p (e .gone))) where
+module _ (p : Pool) (n : ℕ) (ws us : List ℕ) (e : Peel) (len : length (p .cells) ≡ n) (few : n < 65536) (long : n + n ≤ length ws)
+    (r : Reached n ws us e (stateAt p (e .gone))) where
   pub taking : e .at ≢ 0 → Taking p n us e
   taking s = record { sized = len; few = few; long = omega (arith, r .within .size); shows = r .refilled .shows; some = s }
 
@@ -41,7 +44,8 @@ module _ (p : Pool) (n : ℕ) (ws us : List ℕ) (e : Peel) (len : length (p .ce
 
   pub peel-step : (vs : List ℕ) (f : Peel) → e .at ≢ 0 → Reached n us vs f (stateAt p (suc (e .gone))) → Reached n ws vs f (stateAt p (f .gone))
   peel-step vs f s b =
-      subst (λ k. Reached n ws vs f (stateAt p k)) (sym (one-more p n us e (taking s) vs f b)) (record { within = within-then (r .within) (b .within); refilled = b .refilled })
+      subst (λ k. Reached n ws vs f (stateAt p k)) (sym (one-more p n us e (taking s) vs f b))
+      (record { within = within-then (r .within) (b .within); refilled = b .refilled })
 
   pub peel-end : (vs : List ℕ) → Within n vs ws → e .at ≡ 0 → Peeled n p vs us e
   peel-end vs v z = record { shown = record { within = within-then v (r .within); shows = r .refilled .shows }; ended = r .refilled .rests z }

@@ -17,7 +17,8 @@ use Rattle.sound.specs.declared.Peel.{Peel}
 use Rattle.sound.specs.Mirror.{below, Mirrors, Room, stateAt}
 use Rattle.sound.specs.laws.MirrorLaws.{below-length, onTop-some, onTop-none}
 
-module _ (cs : List Cell) (r₀ rest : ℕ → ℕ) (st : Peeling) (n : ℕ) (ws : List ℕ) (e : Peel) (i : PeelInv cs r₀ rest st) (m : Mirrors n ws e st) (len : length cs ≡ n) where
+module _ (cs : List Cell) (r₀ rest : ℕ → ℕ) (st : Peeling) (n : ℕ) (ws : List ℕ) (e : Peel) (i : PeelInv cs r₀ rest st) (m : Mirrors n ws e st)
+    (len : length cs ≡ n) where
   pub held : e .at ≢ 0 → st .stack ≡ e .at ∷ below n ws (e .top)
   held s = sym (m .stack) ∙ onTop-some (e .at) (below n ws (e .top)) s
 

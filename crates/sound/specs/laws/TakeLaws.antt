@@ -79,23 +79,30 @@ module _ (p : Pool) (n : ℕ) (ws : List ℕ) (e : Peel) (g : Taking p n ws e) w
     }
 
     -- a list
-    module _ (y : ℕ) (us : List ℕ) (f : Peel) (one : k ≡ 1) (ye : y ≡ elemOf (p .cells) (e .at)) (d : ArrowMet n y ws (record { ok = b; at = 0; top = e .top; gone = e .gone + 1 }) us f) where
+    module _ (y : ℕ) (us : List ℕ) (f : Peel) (one : k ≡ 1) (ye : y ≡ elemOf (p .cells) (e .at))
+        (d : ArrowMet n y ws (record { ok = b; at = 0; top = e .top; gone = e .gone + 1 }) us f) where
       element-mirrors : Mirrors n us f (elementMet p n ws e)
-      element-mirrors = subst (λ u. Mirrors n us f (meet u (taken cs st (e .at) xs))) (arrow-list (at cs (e .at)) k y ke one ye) (d .shows (taken cs st (e .at) xs) off-mirrors)
+      element-mirrors =
+          subst (λ u. Mirrors n us f (meet u (taken cs st (e .at) xs))) (arrow-list (at cs (e .at)) k y ke one ye)
+          (d .shows (taken cs st (e .at) xs) off-mirrors)
 
       element-inv : PeelInv cs (occ (p .holders)) (λ d. same (nextOf cs (e .at)) d + 0) (elementMet p n ws e)
       element-inv =
-          meet-inv cs (occ (p .holders)) (λ d. gives d (at cs (e .at)) + 0) (λ d. same (nextOf cs (e .at)) d + 0) (arrow (at cs (e .at))) (taken cs st (e .at) xs)
+          meet-inv cs (occ (p .holders)) (λ d. gives d (at cs (e .at)) + 0) (λ d. same (nextOf cs (e .at)) d + 0) (arrow (at cs (e .at)))
+          (taken cs st (e .at) xs)
           (taken-inv cs (occ (p .holders)) (λ d. 0) st (e .at) xs (state-inv p (e .gone)) stacked) (λ d q. omega (arith, gives-arrow d (at cs (e .at)) q))
 
       pub element-room : Room n us f
-      element-room = room cs (occ (p .holders)) (λ d. same (nextOf cs (e .at)) d + 0) (elementMet p n ws e) n us f element-inv element-mirrors (g .sized) (g .few) (omega (arith, d .within .size, g .long))
+      element-room =
+          room cs (occ (p .holders)) (λ d. same (nextOf cs (e .at)) d + 0) (elementMet p n ws e) n us f element-inv element-mirrors (g .sized) (g .few)
+          (omega (arith, d .within .size, g .long))
 
       pub some-element : (vs : List ℕ) (r : Peel) → Stows n us f vs r → ElementMet p n ws e vs r
       some-element vs r a = record { within = within-then (d .within) (a .within); none = a .none; shows = a .shows (elementMet p n ws e) element-mirrors }
 
   -- its successor met
-  module _ (us : List ℕ) (f : Peel) (m : ElementMet p n ws e us f) (x : ℕ) (zs : List ℕ) (r : Peel) (xe : x ≡ nextOf (p .cells) (e .at)) (d : ArrowMet n x us f zs r) where
+  module _ (us : List ℕ) (f : Peel) (m : ElementMet p n ws e us f) (x : ℕ) (zs : List ℕ) (r : Peel) (xe : x ≡ nextOf (p .cells) (e .at))
+      (d : ArrowMet n x us f zs r) where
     next-mirrors : Mirrors n zs r (stateAt p (suc (e .gone)))
     unfolding turns popped pop
     next-mirrors =
@@ -113,7 +120,8 @@ module _ (p : Pool) (n : ℕ) (ws : List ℕ) (e : Peel) (g : Taking p n ws e) w
     pub took : (o : Peel) → Refills n zs r o → Reached n ws zs o (stateAt p (suc (e .gone)))
     took o q = record {
       within = next-within;
-      refilled = q (stateAt p (suc (e .gone))) next-mirrors (none-null cs (occ (p .holders)) (λ d. 0) (stateAt p (suc (e .gone))) (state-inv p (suc (e .gone))));
+      refilled =
+          q (stateAt p (suc (e .gone))) next-mirrors (none-null cs (occ (p .holders)) (λ d. 0) (stateAt p (suc (e .gone))) (state-inv p (suc (e .gone))));
     }
 
   -- one more is done

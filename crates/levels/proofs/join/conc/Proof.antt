@@ -3,14 +3,13 @@ use Prim.Native.Nat.{ℕ}
 use mathlib.Core.Path.{ap, ap₂, sym, _∙_}
 use mathlib.Core.Logic.{_≢_}
 use native.Mathlib.Omega.{arith}
-use lib.ListN.{length}
 use borrow.Author.Needs.{needs}
 use Rattle.cells.specs.laws.RangeLaws.{holder-high}
 use Rattle.pool.specs.Pool.{holder}
 use Rattle.pool.specs.Setters.{putNext, putHolder}
 use Rattle.table.specs.View.{view}
 use Rattle.table.specs.laws.ViewLaws.{itself, after, said}
-use Rattle.levels.specs.laws.Joining.{join-none, join-null, join-last, last-cell}
+use Rattle.levels.specs.laws.JoiningLaws.{join-none, join-null, join-last, last-cell}
 use Rattle.levels.proofs.join.conc.Statement.{statement}
 use Rattle.levels.proofs.join.conc.Tie as tie
 

@@ -5,10 +5,10 @@ use native.Mathlib.Omega.{arith}
 use lib.ListN.{length}
 use borrow.Author.Needs.{needs}
 use Rattle.pool.specs.Pool.{Pool}
-use Rattle.pool.specs.Operations.{flip}
 use Rattle.pool.specs.Setters.{celled, putHolder}
 use Rattle.table.specs.View.{view}
 use Rattle.table.specs.laws.ViewLaws.{after, said}
+use Rattle.levels.specs.Turning.{turned}
 use Rattle.levels.specs.laws.TurningLaws.{own-turns, head-top, is-inv}
 use Rattle.levels.proofs.turn.inv.Statement.{statement}
 use Rattle.levels.proofs.turn.inv.Tie as tie
@@ -36,7 +36,7 @@ set-holder-requires c κs =
               arith,
               head-top _ _ (start .pre .1 .1 .0) (omega arith) (start .pre .1 .1 .1),
               ap (λ (q : Pool). length (q .cells)) (d .1 .is)
-                  ∙ ap (λ (y : ℕ). length (flip (length (p .cells)) (p .cells) y 0 .0)) (after-turn .before .before .holder-of .ensures .0),
+                  ∙ ap (λ (y : ℕ). length (turned p y .0)) (after-turn .before .before .holder-of .ensures .0),
             )),
       ),
     )
@@ -51,11 +51,9 @@ returns c =
     let a = after-turn .before .before .before .before .before .args in
     let p = view (a .s) (a .t .now) in
     let d = after-turn .turn .ensures in
-    let n = length (p .cells) in
-    let cs = p .cells in
     said (after (putHolder (a .a) (after-turn .turn .result)) (d .1) (after-set-holder .set-holder .ensures))
-    (ap (λ (z : ℕ). putHolder (a .a) z (celled (flip n cs (after-turn .before .before .holder-of .result) 0 .0) p)) (d .0)
-    ∙ ap (λ (y : ℕ). putHolder (a .a) (flip n cs y 0 .1) (celled (flip n cs y 0 .0) p)) (after-turn .before .before .holder-of .ensures .0) ∙ is-inv _ _)
+    (ap (λ (z : ℕ). putHolder (a .a) z (celled (turned p (after-turn .before .before .holder-of .result) .0) p)) (d .0)
+    ∙ ap (λ (y : ℕ). putHolder (a .a) (turned p y .1) (celled (turned p y .0) p)) (after-turn .before .before .holder-of .ensures .0) ∙ is-inv _ _)
 
 pub inv-spec : {M : Type 1} → statement M
 inv-spec =

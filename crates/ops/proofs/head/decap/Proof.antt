@@ -63,7 +63,8 @@ returns-2 c v =
     let start = else1 .before .before .before .before in
     let a = start .args in
     let p : Pool = view (a .s) (a .t .now) in
-    let n : 1 < countOf (p .cells) (holder p (a .a)) = rw (← c .before .before .before .holder-of .ensures .0, ← c .before .count-of .ensures .0) (c .if2 .taken) in
+    let x = c .before .before .before .holder-of .ensures .0 in
+    let n : 1 < countOf (p .cells) (holder p (a .a)) = rw (← x, ← c .before .count-of .ensures .0) (c .if2 .taken) in
     refuses _ SHARED (start .pre .0) (parting-shared _ _ (opened start v) refl refl (parted else1) (rw (lt-ltb 1 _ n) refl)) (omega arith)
 
 first-requires : tie.Need-first-requires

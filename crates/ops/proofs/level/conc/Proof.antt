@@ -7,8 +7,9 @@ use lib.Dec.{eqb}
 use borrow.Author.Tests.{eqb-true}
 use borrow.Author.Needs.{needs}
 use Rattle.answers.specs.Answers.{SHARED}
+use Rattle.levels.specs.laws.JoiningLaws.{join-none}
 use Rattle.ops.specs.Replies.{operation}
-use Rattle.ops.specs.laws.GivesLaws.{refuses, does, conc-null}
+use Rattle.ops.specs.laws.GivesLaws.{refuses, does}
 use Rattle.ops.specs.laws.TestLaws.{says-shared, needs-none}
 use Rattle.ops.specs.laws.WordLaws.{two}
 use Rattle.pool.specs.Pool.{holder}
@@ -40,7 +41,7 @@ returns c v =
     let start = c .before .before .before .before in
     let e = sym (c .before .is-null .ensures) ∙ c .if1 .taken in
     does _ _ (needs-none _ _ (opened start v) refl refl (rw e refl) refl)
-    (record { table = start .pre .0; is = sym (conc-null _ (start .args .a) _ (eqb-true _ 0 e)) }) refl
+    (record { table = start .pre .0; is = join-none _ (start .args .a) _ (eqb-true _ 0 e) }) refl
 
 end-of-requires : tie.Need-end-of-requires
 end-of-requires c κs = search needs

@@ -6,6 +6,7 @@ use Prim.Native.Nat.{ℕ, zero, suc}
 use native.Mathlib.Omega.{arith}
 use lib.ListN.{length, set}
 use lib.Seq.{set-getD}
+use Rattle.levels.specs.Joining.{lastCell}
 use Rattle.pool.specs.laws.Edit.{live-cell}
 use Rattle.pool.specs.laws.LastCell.{Last-live, last-is}
 use Rattle.pool.specs.Operations.{lastOf, concAt, conc}
@@ -34,7 +35,7 @@ module _ (p : Pool) (a b : ℕ) where
       go zero (suc j) q m = refl
       go (suc i) (suc j) q m = absurd (omega arith)
 
-  pub join-last : holder p a ≢ 0 → holder p b ≢ 0 → putHolder b 0 (putNext (lastOf (length (p .cells)) (p .cells) (holder p a)) (holder p b) p) ≡ conc p a b
+  pub join-last : holder p a ≢ 0 → holder p b ≢ 0 → putHolder b 0 (putNext (lastCell p a) (holder p b) p) ≡ conc p a b
   unfolding conc concAt
   join-last n m = go (holder p a) (holder p b) refl n m
     where
@@ -43,8 +44,9 @@ module _ (p : Pool) (a b : ℕ) where
       go zero (suc j) e q r = absurd (q refl)
       go (suc i) (suc j) e q r = pool-path refl (ap (λ (hs : List ℕ). set hs b 0) (sym (ap (set (p .holders) a) (sym e) ∙ set-getD (p .holders) a 0))) refl
 
-pub last-cell : (p : Pool) (a : ℕ) → Sound p → holder p a ≢ 0 → InPool (p .cells) (lastOf (length (p .cells)) (p .cells) (holder p a))
+pub last-cell : (p : Pool) (a : ℕ) → Sound p → holder p a ≢ 0 → InPool (p .cells) (lastCell p a)
 last-cell p a s n =
     let (l, w) = denoted p s a in
-    let z : ℕ = lastOf (length (p .cells)) (p .cells) (holder p a) in
-    live-cell (p .cells) z (Last-live (p .cells) l (holder p a) z w (last-is l (length (p .cells)) (p .cells) (holder p a) w n (omega (arith, len-le (p .free) (p .cells) (occ (p .holders)) none-aside (sound-held p s) l (holder p a) w))))
+    let z : ℕ = lastCell p a in
+    let short = len-le (p .free) (p .cells) (occ (p .holders)) none-aside (sound-held p s) l (holder p a) w in
+    live-cell (p .cells) z (Last-live (p .cells) l (holder p a) z w (last-is l (length (p .cells)) (p .cells) (holder p a) w n (omega (arith, short))))
