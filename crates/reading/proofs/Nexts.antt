@@ -11,7 +11,8 @@ use lib.ListN.{length, drop, getD}
 use Rattle.scan.proofs.Atoms as atoms
 use Rattle.scan.proofs.Atoms.{numeral-fits}
 use Rattle.scan.proofs.RunLaws.{run-next}
-use Rattle.scan.proofs.Tokens.{Shutting, AtomTo, closed-out, closed-other, taken-open, taken-early, taken-none, taken-long, taken-out, taken-other}
+use Rattle.scan.proofs.Shutting.{Shutting, closed-out, closed-other}
+use Rattle.scan.proofs.Tokens.{AtomTo, taken-open, taken-early, taken-none, taken-long, taken-out, taken-other}
 use Rattle.scan.specs.Places as places
 use Rattle.scan.specs.Places.{placed, tooLong, closedAt, Inside}
 use Rattle.scan.specs.Runs.{digitRun, numeral}

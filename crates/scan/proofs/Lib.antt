@@ -2,6 +2,9 @@ pub mod RunLaws
 pub mod Words
 pub mod Outlooks
 pub mod Atoms
+pub mod Turns
+pub mod Misplaced
+pub mod Shutting
 pub mod Tokens
 pub mod Fill
 pub mod Whole

@@ -66,16 +66,16 @@ run-part (b ∷ a) t n =
     (λ d f. rw d)
     n
 
--- eight bytes of a text
-abbrev after : ℕ → ℕ → ℕ
-after zero i = i
-after (suc n) i = after n (suc i)
+-- n bytes of a text, and the place behind them
+abbrev shifted : ℕ → ℕ → ℕ
+shifted zero i = i
+shifted (suc n) i = shifted n (suc i)
 
 abbrev bytes : ℕ → List ℕ → ℕ → List ℕ
 bytes zero s i = []
 bytes (suc n) s i = getD s i 0 ∷ bytes n s (suc i)
 
-split : (n : ℕ) (s : List ℕ) (i : ℕ) → i + n ≤ length s → drop i s ≡ bytes n s i ++ drop (after n i) s
+split : (n : ℕ) (s : List ℕ) (i : ℕ) → i + n ≤ length s → drop i s ≡ bytes n s i ++ drop (shifted n i) s
 split zero s i h = refl
 split (suc n) s i h = drop-cons s i 0 (omega arith) ∙ ap (λ (l : List ℕ). getD s i 0 ∷ l) (split n s (suc i) (omega arith))
 

@@ -1,251 +1,27 @@
--- The steps of the code against the automaton: what follows an element, "(", ")" and an atom, each from a place with a character to look at.
--- One turn of the automaton each, and for an atom its digits before.
-use Prim.Native.Nat.{ℕ, zero, suc, _+_, _-_, _<_, _≤_}
+-- The steps of the code from a place where an element is to begin: "(", ")" and an atom. One turn of the automaton each, and for an
+-- atom its digits before.
+use Prim.Native.Nat.{ℕ, suc, _+_, _-_, _<_, _≤_}
 use mathlib.Core.Path.{_≡_, refl, sym, ap, subst, _∙_}
-use mathlib.Core.List.{List, [], _∷_, _++_, append-assoc}
-use mathlib.Core.Bool.{Bool, true, false, cond}
+use mathlib.Core.List.{List, [], _∷_, _++_}
+use mathlib.Core.Bool.{Bool, true, false}
 use native.Mathlib.Omega.{arith}
 use lib.ListN.{length, drop, getD, drop-of-length-le}
-use lib.Dec.{leb, ltb}
-use borrow.Author.Tests.{lt-ltb, le-ltb, ne-eqb, eq-eqb, leb-true, leb-false, ltb-true, ltb-false}
-use Rattle.text.specs.Limits.{levels}
-use Rattle.text.specs.Text as text
-use Rattle.text.specs.Text.{Scan, place, afterOpen, afterComma, inAtom, afterElement, mayOpen, mayShut, mayPart, mayBegin, mark, fault, State, at, settle, stepOf, shutAt, refusal}
+use borrow.Author.Tests.{lt-ltb, le-ltb}
+use Rattle.text.specs.Text.{Scan, place, inAtom, mayShut, State, at, stepOf, refusal}
 use Rattle.text.specs.ListText.{isDigit}
 use Rattle.text.specs.Marks as marks
-use Rattle.text.specs.Marks.{Mark, met, beginnings, pending, shut, value}
-use Rattle.text.specs.laws.TextLaws.{by-case, no-yes, digit-step, Class, is-open, is-shut, is-comma, is-blank, is-digit, is-other, class}
-use Rattle.text.specs.laws.MarkLaws.{beginnings-append}
+use Rattle.text.specs.Marks.{Mark, beginnings, shut, value}
+use Rattle.text.specs.laws.TextLaws.{class}
 use Rattle.scan.specs.Runs.{digitRun, numeral}
-use Rattle.scan.specs.Places.{placed, openOf, tooLong, stateOf, closedAt, phaseOf, Prospect, prospect, prospectAt, behind, shuts, emitted, Inside, Closing, Onward, Told, Taken, Closed}
+use Rattle.scan.specs.Places.{placed, openOf, tooLong, closedAt, phaseOf, Prospect, prospect, prospectAt, shuts, emitted, Inside, Onward, Told, Taken, Closed}
 use Rattle.scan.specs.declared.step.Place.{Place}
 use Rattle.scan.specs.declared.step.Step.{Step}
 use Rattle.scan.specs.declared.step.Step.the-variants as step
 use Rattle.scan.specs.declared.step.Step.the-variants.{Fault}
-use Rattle.scan.proofs.RunLaws.{bounds-digit, run-ends}
-use Rattle.scan.proofs.Outlooks.{turned, behind-behind, stops}
+use Rattle.scan.proofs.RunLaws.{run-ends}
 use Rattle.scan.proofs.Atoms.{Past, atom-on, atom-off, short, long}
-
--- a place with a level open
-pub standing : (p : Place) → 1 ≤ p .depth → stateOf p ≡ at (place (phaseOf (p .first)) (p .depth) 0 0) (p .at)
-standing p h = let n : p .depth ≡ 0 → ⊥ = λ z. omega arith in simp (ne-eqb (p .depth) 0 n)
-
--- a ")" of level d
-shutting : (i d : ℕ) → 1 ≤ d
-    → settle i (cond (ltb d 2) (mark (place text.afterAll 0 0 0)) (mark (place afterElement (d - 1) 0 0))) ≡ closedAt (d - 1) i
-shutting i d h =
-    by-case (ltb d 2) (λ (u : text.Step). settle i u ≡ closedAt (d - 1) i)
-    (λ t. let z : d - 1 ≡ 0 = omega (arith, ltb-true d 2 t) in simp (eq-eqb (d - 1) 0 z))
-    (λ t. let n : d - 1 ≡ 0 → ⊥ = λ z. omega (arith, ltb-false d 2 t) in simp (ne-eqb (d - 1) 0 n))
-
--- the ends of lists begin no element
-beginnings-shuts : (n : ℕ) → beginnings (shuts n) ≡ 0
-beginnings-shuts zero = refl
-beginnings-shuts (suc n) = beginnings-shuts n
-
-shuts-more : (n : ℕ) → shuts n ++ (shut ∷ []) ≡ shuts (suc n)
-shuts-more zero = refl
-shuts-more (suc n) = ap (λ (ms : List Mark). shut ∷ ms) (shuts-more n)
-
--- a place i of the automaton, reached from the place a
-module _ (s : List ℕ) (a : ℕ) (t : Scan) (i : ℕ) (from : a ≤ i) (some : i < length s) (deep : 1 ≤ t .depth) (fits : t .depth ≤ levels) where
-  abbrev here : Prospect
-  here = prospect (at t i) (drop i s)
-
-  becomes : (b : ℕ) → getD s i 0 ≡ b → here ≡ behind (met (at t i) b) (prospect (settle (i + 1) (stepOf t b)) (drop (i + 1) s))
-  becomes b q = turned s t i some ∙ ap (λ (c : ℕ). behind (met (at t i) c) (prospect (settle (i + 1) (stepOf t c)) (drop (i + 1) s))) q
-
-  fault-told : (b n : ℕ) → getD s i 0 ≡ b → stepOf t b ≡ fault n → here .answered ≡ refusal n
-  fault-told b n q f = stops s t i n some (ap (stepOf t) q ∙ f)
-
-  -- ",", which leaves n elements begun
-  comma-on : (e n top : ℕ) → t .depth ≤ top → mayPart (t .phase) ≡ true → n ≡ e + beginnings (pending t) → n ≤ i + 1 → getD s i 0 ≡ 44
-      → Onward s a e top here (pending t) (placed (i + 1) (t .depth) n false)
-  comma-on e n top high may c count q =
-      let st : settle (i + 1) (stepOf t 44) ≡ at (place afterComma (t .depth) 0 0) (i + 1) = simp may in
-      record {
-        on = omega arith;
-        within = omega arith;
-        levelled = fits;
-        counted = count;
-        tallied = c;
-        high = high;
-        same = becomes 44 q
-            ∙ ap (λ (u : State). behind (pending t) (prospect u (drop (i + 1) s))) (st ∙ sym (standing (placed (i + 1) (t .depth) n false) deep));
-      }
-
-  shut-same : mayShut (t .phase) ≡ true → getD s i 0 ≡ 41
-      → here ≡ behind (pending t ++ (shut ∷ [])) (prospect (closedAt (t .depth - 1) (i + 1)) (drop (i + 1) s))
-  shut-same may q =
-      let u = cond (ltb (t .depth) 2) (mark (place text.afterAll 0 0 0)) (mark (place afterElement (t .depth - 1) 0 0)) in
-      let step : shutAt (t .phase) (t .depth) ≡ u = simp may in
-      becomes 41 q
-      ∙ ap (λ (v : State). behind (pending t ++ (shut ∷ [])) (prospect v (drop (i + 1) s))) (ap (settle (i + 1)) step ∙ shutting (i + 1) (t .depth) deep)
-
-  -- ")", which leaves n elements begun, and what follows it
-  shut-told : (e n : ℕ) (m : Place → List Mark) → n ≡ e + beginnings (pending t)
-      → ((q : Place) → q .depth ≤ t .depth - 1 → q .elements ≡ n → m q ≡ pending t ++ (shut ∷ shuts (t .depth - 1 - q .depth)))
-      → mayShut (t .phase) ≡ true → getD s i 0 ≡ 41 → (u : Step) → Closed s (t .depth - 1) n (i + 1) u → Told s a e (t .depth + 1) here m u
-  shut-told e n m c is may q (step.Mark p) w =
-      let k = t .depth - 1 - p .depth in
-      let ms : m p ≡ pending t ++ (shut ∷ shuts k) = is p (w .high) (omega (arith, w .tallied, beginnings-shuts k)) in
-      record {
-        on = omega (arith, w .on);
-        within = w .within;
-        levelled = w .levelled;
-        counted = w .counted;
-        tallied = omega (arith, w .tallied, beginnings-shuts k, ap beginnings ms, beginnings-append (pending t) (shut ∷ shuts k));
-        high = omega (arith, w .high);
-        same = shut-same may q ∙ ap (behind (pending t ++ (shut ∷ []))) (w .same)
-            ∙ behind-behind (pending t ++ (shut ∷ [])) (shuts k) (prospectAt s p)
-            ∙ ap (λ (l : List Mark). behind l (prospectAt s p)) (append-assoc (pending t) (shut ∷ []) (shuts k) ∙ sym ms);
-      }
-  shut-told e n m c is may q (Fault k) w = ap (λ (o : Prospect). o .answered) (shut-same may q) ∙ w
-
-  open-told : (e : ℕ) (m : Place → List Mark) → m (placed (i + 1) (t .depth + 1) (e + 1) true) ≡ marks.opened ∷ []
-      → mayOpen (t .phase) ≡ true → e ≤ i → getD s i 0 ≡ 40 → Told s a e (t .depth + 1) here m (openOf (t .depth) e i)
-  open-told e m is may count q =
-      by-case (leb levels (t .depth)) (Told s a e (t .depth + 1) here m)
-      (λ l. let f : stepOf t 40 ≡ fault 17 = simp (may, le-ltb (t .depth) levels (leb-true levels (t .depth) l)) in fault-told 40 17 q f)
-      (λ l. let less = leb-false levels (t .depth) l in
-      let st : settle (i + 1) (stepOf t 40) ≡ at (place afterOpen (t .depth + 1) 0 0) (i + 1) = simp (may, lt-ltb (t .depth) levels less) in
-      let p = placed (i + 1) (t .depth + 1) (e + 1) true in
-      record {
-        on = omega arith;
-        within = omega arith;
-        levelled = omega arith;
-        counted = omega arith;
-        tallied = omega (arith, ap beginnings is);
-        high = omega arith;
-        same = becomes 40 q
-            ∙ ap (λ (u : State). behind (marks.opened ∷ []) (prospect u (drop (i + 1) s))) (st ∙ sym (standing p (omega arith)))
-            ∙ ap (λ (ms : List Mark). behind ms (prospectAt s p)) (sym is);
-      })
-
--- what may not stand behind an element, behind digits, and where an element is to begin
-not-digit : {A : Type 0} (b x : ℕ) → x < 8 → b ≡ 48 + x → isDigit b ≡ false → A
-not-digit b x h q n = no-yes (sym n ∙ bounds-digit b (omega arith) (omega arith))
-
-behind-element : (d b : ℕ) → (b ≡ 44 → ⊥) → (b ≡ 41 → ⊥) → Class b → stepOf (place afterElement d 0 0) b ≡ fault 15
-behind-element d b p q (is-open e) = ap (stepOf (place afterElement d 0 0)) e
-behind-element d b p q (is-shut e) = absurd (q e)
-behind-element d b p q (is-comma e) = absurd (p e)
-behind-element d b p q (is-blank e) = ap (stepOf (place afterElement d 0 0)) e
-behind-element d b p q (is-digit x h e) = ap (stepOf (place afterElement d 0 0)) e ∙ digit-step (place afterElement d 0 0) x h
-behind-element d b p q (is-other f) = f (place afterElement d 0 0)
-
-behind-digits : (d m w b : ℕ) → isDigit b ≡ false → (b ≡ 44 → ⊥) → (b ≡ 41 → ⊥) → Class b → stepOf (place inAtom d m w) b ≡ fault 15
-behind-digits d m w b n p q (is-open e) = ap (stepOf (place inAtom d m w)) e
-behind-digits d m w b n p q (is-shut e) = absurd (q e)
-behind-digits d m w b n p q (is-comma e) = absurd (p e)
-behind-digits d m w b n p q (is-blank e) = ap (stepOf (place inAtom d m w)) e
-behind-digits d m w b n p q (is-digit x h e) = not-digit b x h e n
-behind-digits d m w b n p q (is-other f) = f (place inAtom d m w)
-
-may-begin : (f : Bool) → (mayOpen (phaseOf f) ≡ true) × (mayBegin (phaseOf f) ≡ true) × (mayPart (phaseOf f) ≡ false)
-may-begin true = (refl, refl, refl)
-may-begin false = (refl, refl, refl)
-
-no-pending : (f : Bool) (d : ℕ) → pending (place (phaseOf f) d 0 0) ≡ []
-no-pending true d = refl
-no-pending false d = refl
-
-no-blank : (f : Bool) (d : ℕ) → stepOf (place (phaseOf f) d 0 0) 32 ≡ fault 15
-no-blank true d = refl
-no-blank false d = refl
-
-no-element : (f : Bool) (d b : ℕ) → isDigit b ≡ false → (b ≡ 40 → ⊥) → (b ≡ 41 → ⊥) → Class b → stepOf (place (phaseOf f) d 0 0) b ≡ fault 15
-no-element f d b n p q (is-open e) = absurd (p e)
-no-element f d b n p q (is-shut e) = absurd (q e)
-no-element f d b n p q (is-comma e) = let may = (may-begin f) .2 in ap (stepOf (place (phaseOf f) d 0 0)) e ∙ simp may
-no-element f d b n p q (is-blank e) = ap (stepOf (place (phaseOf f) d 0 0)) e ∙ no-blank f d
-no-element f d b n p q (is-digit x h e) = not-digit b x h e n
-no-element f d b n p q (is-other g) = g (place (phaseOf f) d 0 0)
-
--- behind a ")" that left depth levels open, before at: d are left before i
-pub record Shutting (s : List ℕ) (depth e at d i : ℕ) : Type 0 where
-  pub from : at ≤ i
-  pub within : i ≤ length s
-  pub levelled : d ≤ levels
-  pub high : d ≤ depth
-  pub counted : e ≤ i
-  pub same : prospect (closedAt depth at) (drop at s) ≡ behind (shuts (depth - d)) (prospect (closedAt d i) (drop i s))
-
-pub shut-once : {s : List ℕ} {d e i : ℕ} → Closing s d e i → Shutting s d e i d i
-shut-once {s} {d} {e} {i} k =
-    let z : 0 ≡ d - d = omega arith in
-    record {
-      from = omega arith;
-      within = k .within;
-      levelled = k .levelled;
-      high = omega arith;
-      counted = k .counted;
-      same = ap (λ (n : ℕ). behind (shuts n) (prospect (closedAt d i) (drop i s))) z;
-    }
-
-module _ {s : List ℕ} {depth e at d i : ℕ} (k : Shutting s depth e at d i) where
-  abbrev closing : Prospect
-  closing = prospect (closedAt depth at) (drop at s)
-
-  module _ (deep : 1 ≤ d) where
-    abbrev scanBehind : Scan
-    scanBehind = place afterElement d 0 0
-
-    stands : closing ≡ behind (shuts (depth - d)) (prospect (text.at scanBehind i) (drop i s))
-    stands =
-        let some : d ≡ 0 → ⊥ = λ z. omega arith in
-        let st : closedAt d i ≡ text.at scanBehind i = simp (ne-eqb d 0 some) in
-        k .same ∙ ap (λ (u : State). behind (shuts (depth - d)) (prospect u (drop i s))) st
-
-    pub closed-out : length s ≤ i → Closed s depth e at (Fault 15)
-    closed-out h =
-        ap (λ (x : Prospect). x .answered) (stands ∙ ap (λ (l : List ℕ). behind (shuts (depth - d)) (prospect (text.at scanBehind i) l)) (drop-of-length-le s h))
-
-    module _ (some : i < length s) where
-      pub closed-comma : 1 ≤ at → getD s i 0 ≡ 44 → Closed s depth e at (step.Mark (placed (i + 1) d e false))
-      closed-comma low q =
-          let w = comma-on s (at - 1) scanBehind i (omega (arith, k .from)) some deep (k .levelled) e e depth (k .high) refl (omega arith) (omega (arith, k .counted)) q in
-          record {
-            on = w .on;
-            within = w .within;
-            levelled = k .levelled;
-            counted = w .counted;
-            tallied = omega (arith, beginnings-shuts (depth - d));
-            high = k .high;
-            same = stands ∙ ap (behind (shuts (depth - d))) (w .same);
-          }
-
-      pub closed-other : (getD s i 0 ≡ 44 → ⊥) → (getD s i 0 ≡ 41 → ⊥) → Closed s depth e at (Fault 15)
-      closed-other p q =
-          ap (λ (x : Prospect). x .answered) stands
-          ∙ fault-told s at scanBehind i (k .from) some deep (k .levelled) (getD s i 0) 15 refl (behind-element d (getD s i 0) p q (class (getD s i 0)))
-
-      pub closed-again : getD s i 0 ≡ 41 → Shutting s depth e at (d - 1) (i + 1)
-      closed-again q =
-          let next = prospect (closedAt (d - 1) (i + 1)) (drop (i + 1) s) in
-          let more : suc (depth - d) ≡ depth - (d - 1) = omega (arith, k .high) in
-          record {
-            from = omega (arith, k .from);
-            within = omega arith;
-            levelled = omega (arith, k .levelled);
-            high = omega (arith, k .high);
-            counted = omega (arith, k .counted);
-            same = stands ∙ ap (behind (shuts (depth - d))) (shut-same s at scanBehind i (k .from) some deep (k .levelled) refl q)
-                ∙ behind-behind (shuts (depth - d)) (shut ∷ []) next
-                ∙ ap (λ (ms : List Mark). behind ms next) (shuts-more (depth - d) ∙ ap shuts more);
-          }
-
-  pub closed-over : 1 ≤ at → d ≡ 0 → Closed s depth e at (step.Mark (placed i 0 e false))
-  closed-over low z =
-      record {
-        on = omega (arith, k .from);
-        within = k .within;
-        levelled = omega arith;
-        counted = k .counted;
-        tallied = omega (arith, beginnings-shuts (depth - 0));
-        high = omega arith;
-        same = k .same ∙ ap (λ (n : ℕ). behind (shuts (depth - n)) (prospect (closedAt n i) (drop i s))) z;
-      }
+use Rattle.scan.proofs.Turns.{standing, fault-told, comma-on, shut-same, shut-told, open-told}
+use Rattle.scan.proofs.Misplaced.{behind-digits, may-begin, no-pending, no-element}
 
 -- an atom whose digits end before i
 pub record AtomTo (s : List ℕ) (p : Place) (i : ℕ) : Type 0 where

@@ -25,7 +25,7 @@ use Rattle.scan.specs.declared.step.Step.the-variants as step
 use Rattle.scan.specs.declared.step.Step.the-variants.{Fault}
 use Rattle.scan.proofs.step.Step.{the-type}
 use Rattle.scan.proofs.Outlooks.{turn, stops}
-use Rattle.scan.proofs.Tokens.{standing}
+use Rattle.scan.proofs.Turns.{standing}
 
 abbrev pub whole : List ℕ → Outlook
 whole s = outlook 0 (at begin 0) s

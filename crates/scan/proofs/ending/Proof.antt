@@ -26,7 +26,12 @@ refused-requires : tie.Need-refused-requires Inv-loop μ-loop
 refused-requires c κs = search needs
 
 returns : tie.Need-returns Inv-loop μ-loop
-returns c = c .refused .ensures ∙ blank-not (c .before .before .before .before .before .before .args .text .now) _ _ (c .before .before .before .before .loop .i) (c .before .before .before .before .loop .inv .1) (omega (arith, c .before .before .before .before .before .before .pre .0 .whole)) (c .before .before .before .loop-test .taken) (c .before .if1 .taken)
+returns c =
+    let turn = c .before .before .before .before in
+    let start = turn .before .before in
+    c .refused .ensures
+    ∙ blank-not (start .args .text .now) _ _ (turn .loop .i) (turn .loop .inv .1) (omega (arith, start .pre .0 .whole)) (c .before .before .before .loop-test .taken)
+    (c .before .if1 .taken)
 
 add-i : tie.Need-add-i Inv-loop μ-loop
 add-i c = search needs
@@ -36,7 +41,10 @@ loop-less c = omega (arith, c .before .before .before .before .before .pre .0 .w
 
 loop-again : tie.Need-loop-again Inv-loop μ-loop
 loop-again c =
-    (omega (arith, c .before .before .before .before .before .pre .0 .whole), blank-on (c .before .before .before .before .before .args .text .now) _ _ (c .before .before .before .loop .i) (c .before .before .before .loop .inv .1) (omega (arith, c .before .before .before .before .before .pre .0 .whole)) (c .before .before .loop-test .taken) (c .if1 .left))
+    let turn = c .before .before .before in
+    let start = turn .before .before in
+    let whole = start .pre .0 .whole in
+    (omega arith, blank-on (start .args .text .now) _ _ (turn .loop .i) (turn .loop .inv .1) (omega arith) (c .before .before .loop-test .taken) (c .if1 .left))
 
 cast-done : tie.Need-cast-done Inv-loop μ-loop
 cast-done c = omega (arith, c .before .before .before .pre .0 .small)
@@ -45,7 +53,9 @@ done-requires : tie.Need-done-requires Inv-loop μ-loop
 done-requires c κs = search needs
 
 returns-2 : tie.Need-returns-2 Inv-loop μ-loop
-returns-2 c = c .done .ensures ∙ record-full (c .before .before .before .before .args .text .now) _ _ (c .before .before .loop .i) (c .before .before .loop .inv .1) (c .before .loop-test .left)
+returns-2 c =
+    let turn = c .before .before in
+    c .done .ensures ∙ record-full (turn .before .before .args .text .now) _ _ (turn .loop .i) (turn .loop .inv .1) (c .before .loop-test .left)
 
 pub ending-spec : {M : Type 1} → statement M
 ending-spec =

@@ -3,7 +3,7 @@ use Prim.Native.Nat.{_-_, _<_}
 use native.Mathlib.Omega.{arith}
 use borrow.Author.Needs.{needs}
 use lib.ListN.{length}
-use Rattle.scan.proofs.Tokens.{Shutting, shut-once, closed-comma, closed-again, closed-over}
+use Rattle.scan.proofs.Shutting.{Shutting, shut-once, closed-comma, closed-again, closed-over}
 use Rattle.reading.proofs.Nexts.{goes-on, shuts-there}
 use Rattle.reading.proofs.next.closed.Statement.{statement}
 use Rattle.reading.proofs.next.closed.Tie as tie

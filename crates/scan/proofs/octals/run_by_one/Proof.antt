@@ -27,7 +27,9 @@ is-octal-requires c κs = search needs
 
 returns : tie.Need-returns Inv-loop μ-loop
 returns c =
-    omega (arith, run-stop (c .before .before .before .before .before .before .args .text .now) (c .before .before .before .before .loop .i) (c .before .before .before .loop-test .taken) (sym (c .before .is-octal .ensures) ∙ not-true _ (c .if1 .taken)))
+    let turn = c .before .before .before .before in
+    let off = sym (c .before .is-octal .ensures) ∙ not-true _ (c .if1 .taken) in
+    omega (arith, run-stop (turn .before .before .args .text .now) (turn .loop .i) (c .before .before .before .loop-test .taken) off)
 
 add-i : tie.Need-add-i Inv-loop μ-loop
 add-i c = search needs
@@ -37,7 +39,9 @@ loop-less c = search needs
 
 loop-again : tie.Need-loop-again Inv-loop μ-loop
 loop-again c =
-    (omega arith, omega (arith, run-next (c .before .before .before .before .before .before .args .text .now) (c .before .before .before .before .loop .i) (c .before .before .before .loop-test .taken) (sym (c .before .is-octal .ensures) ∙ not-false _ (c .if1 .left))))
+    let turn = c .before .before .before .before in
+    let on = sym (c .before .is-octal .ensures) ∙ not-false _ (c .if1 .left) in
+    (omega arith, omega (arith, run-next (turn .before .before .args .text .now) (turn .loop .i) (c .before .before .before .loop-test .taken) on))
 
 returns-2 : tie.Need-returns-2 Inv-loop μ-loop
 returns-2 c = omega (arith, run-out (c .before .before .before .args .text .now) (c .before .loop .i) (c .loop-test .left))

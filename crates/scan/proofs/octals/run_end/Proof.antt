@@ -32,7 +32,11 @@ add-result : tie.Need-add-result Inv-loop μ-loop
 add-result c = omega (arith, trailing-le 64 (left (c .before .eight .result)))
 
 returns : tie.Need-returns Inv-loop μ-loop
-returns c = omega (arith, eight-less (c .before .before .before .before .before .args .text .now) (c .before .before .before .loop .i) (c .before .before .loop-test .taken) (c .before .eight .result) (c .before .eight .ensures .0) (c .before .eight .ensures .1) (c .if1 .taken))
+returns c =
+    let turn = c .before .before .before in
+    let eight = c .before .eight in
+    let text = turn .before .before .args .text .now in
+    omega (arith, eight-less text (turn .loop .i) (c .before .before .loop-test .taken) (eight .result) (eight .ensures .0) (eight .ensures .1) (c .if1 .taken))
 
 add-i : tie.Need-add-i Inv-loop μ-loop
 add-i c = search needs
@@ -41,7 +45,12 @@ loop-less : tie.Need-loop-less Inv-loop μ-loop
 loop-less c = search needs
 
 loop-again : tie.Need-loop-again Inv-loop μ-loop
-loop-again c = (omega arith, omega (arith, eight-more (c .before .before .before .before .before .args .text .now) (c .before .before .before .loop .i) (c .before .before .loop-test .taken) (c .before .eight .result) (c .before .eight .ensures .0) (c .before .eight .ensures .1) (c .if1 .left)))
+loop-again c =
+    let turn = c .before .before .before in
+    let eight = c .before .eight in
+    let text = turn .before .before .args .text .now in
+    let more = eight-more text (turn .loop .i) (c .before .before .loop-test .taken) (eight .result) (eight .ensures .0) (eight .ensures .1) (c .if1 .left) in
+    (omega arith, omega arith)
 
 run-by-one-requires : tie.Need-run-by-one-requires Inv-loop μ-loop
 run-by-one-requires c κs = search needs

@@ -16,8 +16,9 @@ add-second c = search needs
 returns : tie.Need-returns
 returns c =
     let start = c .before .before .before in
-    let stop = run-out (start .args .text .now) (start .args .p .at + 1) (c .if1 .taken) in
-    taken-out (start .pre .0) (record { digit = start .pre .1; run = omega (arith, stop) }) (one-digit (start .args .p .at) (getD (start .args .text .now) (start .args .p .at) 0)) (c .if1 .taken)
+    let at = start .args .p .at in
+    let stop = run-out (start .args .text .now) (at + 1) (c .if1 .taken) in
+    taken-out (start .pre .0) (record { digit = start .pre .1; run = omega (arith, stop) }) (one-digit at (getD (start .args .text .now) at 0)) (c .if1 .taken)
 
 shared-slice-read-if2 : tie.Need-shared-slice-read-if2
 shared-slice-read-if2 c = search needs
@@ -30,9 +31,12 @@ add-t9 c = search needs
 
 returns-2 : tie.Need-returns-2
 returns-2 c =
-    let start = c .before .before .before .before .before .before in
-    let stop = run-stop (start .args .text .now) (start .args .p .at + 1) (c .before .before .before .if1 .left) (ap isDigit (c .before .if2 .taken)) in
-    taken-comma (start .pre .0) (record { digit = start .pre .1; run = omega (arith, stop) }) (one-digit (start .args .p .at) (getD (start .args .text .now) (start .args .p .at) 0)) (c .before .before .before .if1 .left) (c .before .if2 .taken)
+    let more = c .before .before .before in
+    let start = more .before .before .before in
+    let at = start .args .p .at in
+    let stop = run-stop (start .args .text .now) (at + 1) (more .if1 .left) (ap isDigit (c .before .if2 .taken)) in
+    taken-comma (start .pre .0) (record { digit = start .pre .1; run = omega (arith, stop) }) (one-digit at (getD (start .args .text .now) at 0)) (more .if1 .left)
+    (c .before .if2 .taken)
 
 digits-requires : tie.Need-digits-requires
 digits-requires c κs = search needs

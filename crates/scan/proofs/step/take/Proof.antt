@@ -25,13 +25,18 @@ open-requires : tie.Need-open-requires
 open-requires c κs = search needs
 
 returns-2 : tie.Need-returns-2
-returns-2 c = rw (c .«open» .ensures) (taken-open (c .before .before .before .before .before .before .before .pre) (c .before .if2 .taken))
+returns-2 c =
+    let no-digit = c .before .before .before in
+    rw (c .«open» .ensures) (taken-open (no-digit .before .before .before .before .pre) (c .before .if2 .taken))
 
 shared-slice-read-if3 : tie.Need-shared-slice-read-if3
 shared-slice-read-if3 c = search needs
 
 returns-3 : tie.Need-returns-3
-returns-3 c = taken-none (c .before .before .before .before .before .before .before .before .pre) (sym (c .before .before .before .before .before .is-octal .ensures) ∙ c .before .before .before .before .if1 .left) (c .before .before .if2 .left) (c .if3 .taken)
+returns-3 c =
+    let no-digit = c .before .before .before .before in
+    let after-test = no-digit .before in
+    taken-none (after-test .before .before .before .pre) (sym (after-test .is-octal .ensures) ∙ no-digit .if1 .left) (c .before .before .if2 .left) (c .if3 .taken)
 
 sub-closed : tie.Need-sub-closed
 sub-closed c = search needs
@@ -41,19 +46,27 @@ add-closed c = search needs
 
 closed-requires : tie.Need-closed-requires
 closed-requires c κs =
+    let no-open = c .before .before .before .before in
+    let no-digit = no-open .before .before in
+    let inside = no-digit .before .before .before .before .pre in
     record {
       some = omega arith;
-      within = omega (arith, c .before .before .before .before .before .before .before .before .before .before .pre .some);
-      small = c .before .before .before .before .before .before .before .before .before .before .pre .small;
-      levelled = omega (arith, c .before .before .before .before .before .before .before .before .before .before .pre .levelled);
-      counted = omega (arith, c .before .before .before .before .before .before .before .before .before .before .pre .counted);
+      within = omega (arith, inside .some);
+      small = inside .small;
+      levelled = omega (arith, inside .levelled);
+      counted = omega (arith, inside .counted);
     }
 
 returns-4 : tie.Need-returns-4
-returns-4 c = taken-shut (c .before .before .before .before .before .before .before .before .before .before .before .pre) (c .before .before .if4 .taken) (c .before .before .before .if3 .left) (c .closed .result) (c .closed .ensures)
+returns-4 c =
+    let on-shut = c .before .before .before in
+    let no-digit = on-shut .before .before .before .before in
+    taken-shut (no-digit .before .before .before .before .pre) (c .before .before .if4 .taken) (on-shut .if3 .left) (c .closed .result) (c .closed .ensures)
 
 returns-5 : tie.Need-returns-5
-returns-5 c = taken-early (c .before .before .before .before .before .before .before .before .before .pre) (c .if4 .left) (c .before .if3 .left)
+returns-5 c =
+    let no-digit = c .before .before .before .before .before in
+    taken-early (no-digit .before .before .before .before .pre) (c .if4 .left) (c .before .if3 .left)
 
 pub take-spec : {M : Type 1} → statement M
 take-spec =
