@@ -1,8 +1,5 @@
-pub mod Build
-pub mod Reading
-pub mod Hooks
-pub mod Underway
 pub mod Numbers
 pub mod Accepting
+pub mod Adding
 pub mod Pass
 pub mod laws

@@ -3,6 +3,8 @@ use mathlib.Core.Path.{_≡_}
 use mathlib.Core.List.{List}
 use Prim.Native.Nat.{ℕ}
 use lib.ListN.{length}
+use Rattle.building.specs.Underway.{LeadsTo}
+use Rattle.building.specs.declared.hook.Hook.{Hook}
 use Rattle.pool.specs.Operations.{read}
 use Rattle.scan.specs.Places.{prospectAt}
 use Rattle.scan.specs.declared.step.Place.{Place}
@@ -11,13 +13,13 @@ use Rattle.table.specs.View.{view, Table}
 use Rattle.text.specs.Limits.{levels}
 use Rattle.text.specs.Marks.{listIn}
 use Rattle.reading.specs.Accepting.{Taken, Accepting}
-use Rattle.reading.specs.Underway.{After}
-use Rattle.reading.specs.declared.hook.Hook.{Hook}
+use Rattle.reading.specs.Adding.{stack}
 
 -- from the table ts to the table us
-pub record Pass (s : Shape) (ts : List ℕ) (h : ℕ) (text us : List ℕ) (k : Hook) (xs : List ℕ) (p : Place) : Type 0 where
+pub record Pass (s : Shape) (ts : List ℕ) (h : ℕ) (text : List ℕ)
+    (us : List ℕ) (k : Hook) (xs : List ℕ) (p : Place) : Type 0 where
   pub taken : Taken text
   pub table : Table s us
   pub long : length xs ≡ levels
   pub place : Accepting text p
-  pub after : After (view s us) h k xs (p .depth) (read (view s ts) h (listIn text)) ((prospectAt text p) .marks)
+  pub leads : LeadsTo (view s us) h k (stack xs (p .depth)) (read (view s ts) h (listIn text)) ((prospectAt text p) .marks)

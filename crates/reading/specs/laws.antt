@@ -1,9 +1,5 @@
-pub mod BuildLaws
-pub mod MarksLeft
-pub mod ReadingLaws
-pub mod HookLaws
-pub mod UnderwayLaws
 pub mod AcceptingLaws
+pub mod StackLaws
 pub mod AddLaws
 pub mod PassLaws
 pub mod ReadLaws

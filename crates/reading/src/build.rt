@@ -1,43 +1,46 @@
-// The second pass over a text that is a list and has room: every element gets its cell where it begins.
+// The second pass over a text that is a list and has room: the marks between each two places go into cells.
 ghost use mathlib.Core.Path.{_≡_};
 ghost use Prim.Native.Nat.{_-_, _≤_, _<_};
-ghost use lib.ListN.{length};
+ghost use Rattle.building.specs.Underway.{Coming};
 ghost use Rattle.lists.specs.Lst.{extent};
 ghost use Rattle.pool.specs.Operations.{read};
 ghost use Rattle.pool.specs.Pool.{frees, Sound};
-ghost use Rattle.scan.specs.Places.{shuts, passed};
+ghost use Rattle.scan.specs.Places.{shuts};
 ghost use Rattle.table.specs.View.{holderCount, view, Table, Shows};
 ghost use Rattle.text.specs.Limits.{levels};
 ghost use Rattle.text.specs.Marks.{listIn};
 ghost use Rattle.reading.specs.Accepting.{Taken};
-ghost use Rattle.reading.specs.Hooks.{stack};
-ghost use Rattle.reading.specs.Underway.{Adding, Ready, Steps};
+ghost use Rattle.reading.specs.Adding.{stack, ShutTo, Adding, Added};
 use crate::digits;
-use crate::hook;
-use crate::hook::Hook;
 use crate::next;
+use building::hook::Hook;
 use scan::limits::Level;
 use scan::step::Place;
 use table::Shape;
 
-// The cell of each open list, by its level; the outermost has none.
+// The cell of each open list, the outermost first, which has none.
 type Lists = [u32; Level::MOST as usize];
 
-// The lists of the levels above `to` end: each gets null where its next cell would be named.
+fn wide(c: u32) -> usize
+    ensures { λ r. ⌜ r ≡ c ⌝ }
+{
+    c as usize
+}
+
+// The lists of the levels above `to` end.
 fn shut(s: Shape, t: &mut [u32], h: usize, k: Hook, lists: &Lists, from: u32, to: u32) -> Hook
     requires { ⌜ Table s (now t) ⌝ }
     requires { ⌜ h < holderCount s ⌝ }
-    requires { ⌜ (1 ≤ from) × (from ≤ levels) × (to ≤ from) ⌝ }
-    requires { ⌜ Ready (view s (now t)) h k (stack (now lists) (from - 1)) (shuts (from - to)) ⌝ }
-    ensures { λ r. ⌜ Steps s h (now (t .entry)) k (stack (now (lists .entry)) (from - 1)) (shuts (from - to)) (now (t .exit)) r (now (lists .entry)) to ⌝ }
+    requires { ⌜ (from ≤ levels) × (to ≤ from) ⌝ }
+    requires { ⌜ Coming (view s (now t)) h k (stack (now lists) from) (shuts (from - to)) ⌝ }
+    ensures { λ r. ⌜ ShutTo s h (now (t .entry)) k (now (lists .entry)) from to (now (t .exit)) r ⌝ }
 {
     let mut at = k;
     let mut d = from;
     while d > to {
-        hook::hang(s, t, h, at, 0);
         d -= 1;
         let level = d as usize;
-        at = hook::after(lists[level]);
+        at = building::shut_list(s, t, h, at, wide(lists[level]));
     }
     at
 }
@@ -54,25 +57,17 @@ fn add(
     v: u32,
 ) -> Hook
     requires { ⌜ Adding s (now t) h k (now lists) p q v ⌝ }
-    ensures { λ r. ⌜ (length (now (lists .exit)) ≡ levels) × Steps s h (now (t .entry)) k (stack (now (lists .entry)) (p .depth - 1)) (passed v p q) (now (t .exit)) r (now (lists .exit)) (q .depth) ⌝ }
+    ensures { λ r. ⌜ Added s (now (t .entry)) h k (now (lists .entry)) p q v (now (t .exit)) r (now (lists .exit)) ⌝ }
 {
     if q.depth > p.depth {
-        let c = hook::begin(s, t, h, k, 1, 0);
+        let j = building::begin_list(s, t, h, k);
         let level = p.depth as usize;
-        lists[level] = c as u32;
-        return Hook { cell: c, inside: 1 };
+        lists[level] = j.cell as u32;
+        return j;
     }
     if q.elements > p.elements {
-        let c = hook::begin(s, t, h, k, 0, v);
-        return shut(
-            s,
-            t,
-            h,
-            Hook { cell: c, inside: 0 },
-            lists,
-            p.depth,
-            q.depth,
-        );
+        let j = building::add_atom(s, t, h, k, v);
+        return shut(s, t, h, j, lists, p.depth, q.depth);
     }
     shut(s, t, h, k, lists, p.depth, q.depth)
 }

@@ -20,7 +20,6 @@ use table::Shape;
 
 pub mod build;
 pub mod digits;
-pub mod hook;
 pub mod next;
 
 // A sound table, of which so many cells are free, and a text of a right size.

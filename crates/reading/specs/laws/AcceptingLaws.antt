@@ -1,5 +1,6 @@
 -- A text that the check takes begins with "(", and each step from a place of it is a mark, up to its last ")".
 use mathlib.Core.Path.{_≡_, refl, sym, ap, _∙_, subst}
+use mathlib.Core.Bool.{true}
 use mathlib.Core.List.{List, [], _∷_, _++_}
 use Prim.Native.Nat.{ℕ, _≤_, _<_}
 use native.Mathlib.Omega.{arith}
@@ -10,11 +11,11 @@ use Rattle.scan.specs.Places.{opened, phaseOf, stateOf, Prospect, prospectAt, e
 use Rattle.scan.specs.laws.Starts.{no-start}
 use Rattle.scan.specs.declared.step.Place.{Place}
 use Rattle.text.specs.laws.Accepted.{accepted, sized, never-nought}
-use Rattle.text.specs.Marks.{listIn}
+use Rattle.text.specs.Marks as marks
+use Rattle.text.specs.Marks.{marksOf, listIn}
 use Rattle.text.specs.Text.{Answer, Step, State, at, place, settle, run, answer, scanned, refusal}
 use Rattle.text.specs.laws.TextLaws.{rests-refused, class}
 use Rattle.reading.specs.Accepting.{Taken, Accepting, Goes}
-use Rattle.reading.specs.laws.MarksLeft.{marksLeft, all-left}
 
 -- a refusal is not what the check says of a text that it takes
 pub refuted : {A : Type 0} (s : List ℕ) → Taken s → (k : ℕ) → scanned s ≡ refusal k → A
@@ -26,7 +27,7 @@ refuted s t k e =
 -- behind the outermost "("
 pub record First (s : List ℕ) : Type 0 where
   pub place : Accepting s opened
-  pub left : (prospectAt s opened) .marks ≡ marksLeft (listIn s) []
+  pub left : marksOf true (listIn s) ≡ marks.opened ∷ (prospectAt s opened) .marks
 
 behind-open : (bs : List ℕ) → Taken (40 ∷ bs) → First (40 ∷ bs)
 unfolding scanned
@@ -35,7 +36,7 @@ behind-open bs t =
     let all = (accepted s (t .bytes) (t .is)) .0 in
     record {
       place = record { within = omega arith; levelled = omega arith; counted = omega arith; answered = refl };
-      left = all-left (listIn s) ((prospectAt s opened) .marks) (sym all);
+      left = sym all;
     }
 
 pub first : (s : List ℕ) → Taken s → First s

@@ -1,13 +1,16 @@
 -- The second pass begins behind the outermost "(", goes on with each step, and ends with the list in the holder.
-use mathlib.Core.Path.{_≡_, refl, subst}
-use mathlib.Core.List.{List, [], _++_}
-use Prim.Native.Nat.{ℕ, _-_, _≤_, _<_}
-use native.Mathlib.Omega.{arith}
-use lib.ListN.{length, drop}
+use mathlib.Core.Path.{_≡_, sym, ap, subst}
+use mathlib.Core.List.{List, [], _∷_, _++_}
+use Prim.Native.Nat.{ℕ, _≤_, _<_}
+use lib.ListN.{length, drop, getD}
+use Rattle.building.specs.Hooks.{hookNext}
+use Rattle.building.specs.Underway.{LeadsTo}
+use Rattle.building.specs.laws.StepLaws.{starts}
+use Rattle.building.specs.declared.hook.Hook.{Hook}
 use Rattle.lists.specs.Lst.{extent}
 use Rattle.pool.specs.Operations.{read}
 use Rattle.pool.specs.Pool.{Pool, frees, Sound}
-use Rattle.scan.specs.Places.{opened, prospectAt, passed, emitted}
+use Rattle.scan.specs.Places.{opened, prospectAt, emitted}
 use Rattle.scan.specs.Runs.{numeral}
 use Rattle.scan.specs.declared.step.Place.{Place}
 use Rattle.table.specs.declared.Shape.{Shape}
@@ -15,27 +18,26 @@ use Rattle.table.specs.View.{holderCount, view, Table, Shows}
 use Rattle.text.specs.Limits.{levels}
 use Rattle.text.specs.Marks.{Mark, listIn}
 use Rattle.reading.specs.Accepting.{Taken, Amid, Goes}
-use Rattle.reading.specs.laws.AcceptingLaws.{first, goes-on, marks-on}
-use Rattle.reading.specs.Hooks.{hookAfter, stack, openCells}
+use Rattle.reading.specs.Adding.{stack, Adding, Added}
 use Rattle.reading.specs.Pass.{Pass}
-use Rattle.reading.specs.laws.ReadingLaws.{start}
-use Rattle.reading.specs.Underway.{Underway, Steps, Adding}
-use Rattle.reading.specs.declared.hook.Hook.{Hook}
+use Rattle.reading.specs.laws.AcceptingLaws.{first, goes-on, marks-on}
 
-pub begins : {s : Shape} {ts : List ℕ} (h : ℕ) {text : List ℕ} → Taken text → Table s ts → Sound (view s ts) → extent (listIn text) ≤ frees (view s ts .cells) → (xs : List ℕ) → length xs ≡ levels
-    → Pass s ts h text ts (hookAfter 0) xs opened
-unfolding stack openCells
-begins {s} {ts} h {text} taken t sound room xs long =
+-- with a null in the array for the outermost list
+pub begins : {s : Shape} {ts : List ℕ} (h : ℕ) {text : List ℕ} → Taken text → Table s ts → Sound (view s ts)
+    → extent (listIn text) ≤ frees (view s ts .cells) → (xs : List ℕ) → length xs ≡ levels → getD xs 0 0 ≡ 0
+    → Pass s ts h text ts (hookNext 0) xs opened
+unfolding stack
+begins {s} {ts} h {text} taken t sound room xs long null =
     let f = first text taken in
+    let marks = (prospectAt text opened) .marks in
+    let goal = read (view s ts) h (listIn text) in
     record {
       taken = taken;
       table = t;
       long = long;
       place = f .place;
-      after = record {
-        over = λ z. absurd (omega arith);
-        on = λ _. record { rest = listIn text; opens = []; reading = start (view s ts) h (listIn text) sound room; cells = refl; left = f .left };
-      };
+      leads = subst (λ (c : ℕ). LeadsTo (view s ts) h (hookNext 0) (c ∷ []) goal marks) (sym null)
+          (starts (view s ts) h (listIn text) marks sound room (f .left));
     }
 
 module _ {s : Shape} {ts : List ℕ} {h : ℕ} {text us : List ℕ} {k : Hook} {xs : List ℕ} {p : Place} (a : Pass s ts h text us k xs p) where
@@ -43,7 +45,10 @@ module _ {s : Shape} {ts : List ℕ} {h : ℕ} {text us : List ℕ} {k : Hook} {
   goal = read (view s ts) h (listIn text)
 
   pub over : p .depth ≡ 0 → Shows s us goal
-  over z = record { table = a .table; is = a .after .over z }
+  unfolding stack
+  over z =
+      let ended = subst (λ (d : ℕ). LeadsTo (view s us) h k (stack xs d) goal ((prospectAt text p) .marks)) z (a .leads) in
+      record { table = a .table; is = ended .0 }
 
   module _ (deep : 1 ≤ p .depth) where
     pub amid : Amid text p
@@ -53,26 +58,26 @@ module _ {s : Shape} {ts : List ℕ} {h : ℕ} {text us : List ℕ} {k : Hook} {
       abbrev later : List Mark
       later = (prospectAt text q) .marks
 
-      now : Underway (view s us) h k (stack xs (p .depth - 1)) goal (emitted text p q ++ later)
-      now = subst (Underway (view s us) h k (stack xs (p .depth - 1)) goal) (marks-on text (a .taken) p (a .place) q w) (a .after .on deep)
+      now : LeadsTo (view s us) h k (stack xs (p .depth)) goal (emitted text p q ++ later)
+      now = subst (LeadsTo (view s us) h k (stack xs (p .depth)) goal) (marks-on text (a .taken) p (a .place) q w) (a .leads)
 
       pub adding : {v : ℕ} → h < holderCount s → v ≡ numeral 0 (drop (p .at) text) → Adding s us h k xs p q v
       adding holder e = record {
         table = a .table;
         holder = holder;
         long = a .long;
-        deep = deep;
         levelled = a .place .levelled;
         high = w .high;
         top = w .levelled;
-        ready = rw e record { goal = goal; later = later; now = now };
+        coming = rw e record { goal = goal; later = later; now = now };
       }
 
-      pub on : {v : ℕ} → v ≡ numeral 0 (drop (p .at) text) → (vs : List ℕ) (j : Hook) (ys : List ℕ) → length ys ≡ levels → Steps s h us k (stack xs (p .depth - 1)) (passed v p q) vs j ys (q .depth) → Pass s ts h text vs j ys q
-      on e vs j ys long st = record {
+      pub on : {v : ℕ} → v ≡ numeral 0 (drop (p .at) text) → (vs : List ℕ) (j : Hook) (ys : List ℕ) → Added s us h k xs p q v vs j ys
+          → Pass s ts h text vs j ys q
+      on e vs j ys d = record {
         taken = a .taken;
-        table = st .table;
-        long = long;
+        table = d .steps .table;
+        long = d .long;
         place = goes-on text (a .taken) p (a .place) q w;
-        after = st .after goal later (rw e now);
+        leads = d .steps .leads goal later (rw e now);
       }

@@ -1,5 +1,5 @@
 -- `reading::build::build` meets its contract.
-use mathlib.Core.Path.{_≡_, sym, ap, _∙_}
+use mathlib.Core.Path.{_≡_, refl, sym, ap, _∙_}
 use Prim.Native.Nat.{ℕ, _-_}
 use native.Mathlib.Omega.{arith}
 use borrow.Author.Needs.{needs}
@@ -33,7 +33,7 @@ opened-requires c κs = search needs
 loop-holds : tie.Need-loop-holds Inv-loop μ-loop
 loop-holds c =
     let start = c .before .before .before in
-    rw (c .opened .ensures) (begins (start .args .h) (start .pre .1 .1 .1 .0) (start .pre .0) (start .pre .1 .1 .0) (start .pre .1 .1 .1 .1) _ (length-replicate {A = ℕ} levels 0))
+    rw (c .opened .ensures) (begins (start .args .h) (start .pre .1 .1 .1 .0) (start .pre .0) (start .pre .1 .1 .0) (start .pre .1 .1 .1 .1) _ (length-replicate {A = ℕ} levels 0) refl)
 
 number-at-requires : tie.Need-number-at-requires Inv-loop μ-loop
 number-at-requires c κs = numbered (amidst c)
@@ -53,7 +53,7 @@ loop-again : tie.Need-loop-again Inv-loop μ-loop
 loop-again c =
     let turn = c .before .before .before .before .before .before .before .before .before in
     let step = c .before .before .add in
-    on (turn .loop .inv) (c .before .before .before .before .before .before .before .if1 .taken) (c .before .before .before .before .before .next .ensures) (value (c .before .before .before .before .before .before)) _ (step .result) _ (step .ensures .0) (step .ensures .1)
+    on (turn .loop .inv) (c .before .before .before .before .before .before .before .if1 .taken) (c .before .before .before .before .before .next .ensures) (value (c .before .before .before .before .before .before)) _ (step .result) _ (step .ensures)
 
 same-length : tie.Need-same-length Inv-loop μ-loop
 same-length c = c .before .before .loop .inv .table .sized ∙ sym (c .before .before .before .before .before .before .pre .0 .sized)

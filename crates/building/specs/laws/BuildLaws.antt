@@ -12,15 +12,10 @@ use Rattle.pool.specs.Operations.{Made, load}
 use Rattle.pool.specs.Pool.{at, Cell, put, kindOf, countOf, nextOf, followed, setNext, Chain}
 use Rattle.pool.specs.Tally.{same, tally, occ}
 use Rattle.pool.specs.laws.TallyLaws.{same-of}
-use Rattle.reading.specs.Build.{link, Open, Built, built, finished, completed, after, inside, hung}
+use Rattle.building.specs.Build.{link, Open, Built, built, finished, completed, inNext, inElem, hung}
+use Rattle.building.specs.Reading.{Supply}
 
--- the free chain has enough cells, none twice
-pub record Supply (cs : List Cell) (f : ℕ) (fs : List ℕ) (n : ℕ) : Type 0 where
-  pub chain : Chain cs f fs
-  pub once : (v : ℕ) → occ fs v ≤ 1
-  pub enough : n ≤ length fs
-
--- its first cell
+-- the first cell of a chain with enough of them
 pub record Head (cs : List Cell) (f n : ℕ) (fs : List ℕ) : Type 0 where
   pub rest : List ℕ
   pub live : f ≢ 0
@@ -187,7 +182,7 @@ open-step e l os f cs fs s top =
 
 -- a new cell is stored with null for what is not known yet, and that is stored when it is
 pub atom-hung : (v : ℕ) (l : Lst) (os : List Open) (f : ℕ) (cs : List Cell) (fs : List ℕ) → Supply cs f fs (extent (atom v l)) → f ≤ length cs
-    → completed f cs (atom v l) os ≡ completed (nextOf cs f) (hung (after f) (link l (nextOf cs f)) (put cs f (record { kind = 0; elem = v; count = 1; next = 0 }))) l os
+    → completed f cs (atom v l) os ≡ completed (nextOf cs f) (hung (inNext f) (link l (nextOf cs f)) (put cs f (record { kind = 0; elem = v; count = 1; next = 0 }))) l os
 unfolding extent
 atom-hung v l os f cs fs s top =
     let h = head-of cs f fs (extent l) s in
@@ -198,7 +193,7 @@ atom-hung v l os f cs fs s top =
     put-put cs f x (followed (at (put cs f x) f) (link l g)) ∙ ap (λ (y : Cell). put cs f (followed y (link l g))) (put-same cs f x (omega (arith, h .live)) top)))
 
 pub open-hung : (e l : Lst) (os : List Open) (f : ℕ) (cs : List Cell) (fs : List ℕ) → Supply cs f fs (extent (list e l)) → f ≤ length cs
-    → completed f cs (list e l) os ≡ completed (nextOf cs f) (hung (inside f) (link e (nextOf cs f)) (put cs f (record { kind = 1; elem = 0; count = 1; next = 0 }))) e (record { cell = f; rest = l } ∷ os)
+    → completed f cs (list e l) os ≡ completed (nextOf cs f) (hung (inElem f) (link e (nextOf cs f)) (put cs f (record { kind = 1; elem = 0; count = 1; next = 0 }))) e (record { cell = f; rest = l } ∷ os)
 unfolding extent
 open-hung e l os f cs fs s top =
     let h = head-of cs f fs (extent e + extent l) s in
@@ -210,7 +205,7 @@ open-hung e l os f cs fs s top =
     ∙ ap (λ (y : Cell). put cs f (record { kind = y .kind; elem = link e g; count = y .count; next = y .next })) (put-same cs f x (omega (arith, h .live)) top)))
 
 -- the innermost list ends: the list around it goes on behind its cell
-pub shut-hung : (f : ℕ) (cs : List Cell) (o : Open) (os : List Open) → completed f cs nil (o ∷ os) ≡ completed f (hung (after (o .cell)) (link (o .rest) f) cs) (o .rest) os
+pub shut-hung : (f : ℕ) (cs : List Cell) (o : Open) (os : List Open) → completed f cs nil (o ∷ os) ≡ completed f (hung (inNext (o .cell)) (link (o .rest) f) cs) (o .rest) os
 unfolding load finished
 shut-hung f cs o os = refl
 

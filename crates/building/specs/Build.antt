@@ -45,9 +45,9 @@ wanted l (o ∷ os) = extent l + wanted (o .rest) os
 
 -- where the next cell is to be named: by the holder, by the cell before it, or by the cell whose element it begins
 pub data Link : Type 0 where
-  held : Link
-  after : ℕ → Link
-  inside : ℕ → Link
+  inHolder : Link
+  inNext : ℕ → Link
+  inElem : ℕ → Link
 
 -- the element of a cell replaced
 abbrev pub setElem : List Cell → ℕ → ℕ → List Cell
@@ -55,11 +55,11 @@ setElem cs c e = put cs c (record { kind = kindOf cs c; elem = e; count = countO
 
 -- the cells, and the holders, with c named there
 abbrev pub hung : Link → ℕ → List Cell → List Cell
-hung held c cs = cs
-hung (after x) c cs = setNext cs x c
-hung (inside x) c cs = setElem cs x c
+hung inHolder c cs = cs
+hung (inNext x) c cs = setNext cs x c
+hung (inElem x) c cs = setElem cs x c
 
 abbrev pub heldBy : Link → ℕ → ℕ → List ℕ → List ℕ
-heldBy held h c hs = set hs h c
-heldBy (after x) h c hs = hs
-heldBy (inside x) h c hs = hs
+heldBy inHolder h c hs = set hs h c
+heldBy (inNext x) h c hs = hs
+heldBy (inElem x) h c hs = hs

@@ -12,19 +12,19 @@ use Rattle.pool.specs.Pool.{at, Cell, Pool, put, kindOf, countOf, nextOf, follo
 use Rattle.pool.specs.laws.Room.{frees-lives}
 use Rattle.pool.specs.Tally.{tally, occ}
 use Rattle.pool.specs.laws.TallyLaws.{same-eq, same-of}
-use Rattle.reading.specs.Build.{Open, Built, finished, wanted, Link, held, after, inside, hung, heldBy}
-use Rattle.reading.specs.laws.BuildLaws.{Supply, head-of, fewer, off-put, head-link, atom-hung, open-hung, shut-hung, shut-last}
-use Rattle.reading.specs.Reading.{hang, begun, Off, LinkOff, OpenOff, Reading}
+use Rattle.building.specs.Build.{Open, Built, finished, wanted, Link, inHolder, inNext, inElem, hung, heldBy}
+use Rattle.building.specs.laws.BuildLaws.{head-of, fewer, off-put, head-link, atom-hung, open-hung, shut-hung, shut-last}
+use Rattle.building.specs.Reading.{hang, hangNew, Supply, Off, LinkOff, OpenOff, Reading}
 
 hung-length : (k : Link) (c : ℕ) (cs : List Cell) → length (hung k c cs) ≡ length cs
-hung-length held c cs = refl
-hung-length (after x) c cs = put-length cs x (followed (at cs x) c)
-hung-length (inside x) c cs = put-length cs x (record { kind = kindOf cs x; elem = c; count = countOf cs x; next = nextOf cs x })
+hung-length inHolder c cs = refl
+hung-length (inNext x) c cs = put-length cs x (followed (at cs x) c)
+hung-length (inElem x) c cs = put-length cs x (record { kind = kindOf cs x; elem = c; count = countOf cs x; next = nextOf cs x })
 
 hung-supply : (k : Link) (c : ℕ) {cs : List Cell} {f : ℕ} {fs : List ℕ} {n : ℕ} → LinkOff cs fs k → Supply cs f fs n → Supply (hung k c cs) f fs n
-hung-supply held c o s = s
-hung-supply (after x) c {cs} o s = off-put x (followed (at cs x) c) s (o .apart)
-hung-supply (inside x) c {cs} o s = off-put x (record { kind = kindOf cs x; elem = c; count = countOf cs x; next = nextOf cs x }) s (o .apart)
+hung-supply inHolder c o s = s
+hung-supply (inNext x) c {cs} o s = off-put x (followed (at cs x) c) s (o .apart)
+hung-supply (inElem x) c {cs} o s = off-put x (record { kind = kindOf cs x; elem = c; count = countOf cs x; next = nextOf cs x }) s (o .apart)
 
 -- off a chain is off a part of it, whatever the cells
 off-less : {cs ds : List Cell} {fs gs : List ℕ} {c : ℕ} → length cs ≡ length ds → ((v : ℕ) → occ gs v ≤ occ fs v) → Off cs fs c → Off ds gs c
@@ -112,7 +112,7 @@ fresh-list p h k e l os q r =
     let n = wanted e (record { cell = p .free; rest = l } ∷ os) in
     fresh p k n (r .chain) (fewer (suc n) (r .supply) (omega (arith, wanted-list e l (p .free) os))) (r .range) (r .hook)
 
-pub step-atom : (p : Pool) (h : ℕ) (k : Link) (v : ℕ) (l : Lst) (os : List Open) (q : Pool) → Reading p h k (atom v l) os q → Reading (begun 0 v k h p) h (after (p .free)) l os q
+pub step-atom : (p : Pool) (h : ℕ) (k : Link) (v : ℕ) (l : Lst) (os : List Open) (q : Pool) → Reading p h k (atom v l) os q → Reading (hangNew 0 v k h p) h (inNext (p .free)) l os q
 step-atom p h k v l os q r =
     let s : Supply (p .cells) (p .free) (r .chain) (suc (wanted l os)) = fewer (suc (wanted l os)) (r .supply) (omega (arith, wanted-atom v l os)) in
     let b = begins p k (wanted l os) os (r .chain) (record { kind = 0; elem = v; count = 1; next = 0 }) s (r .range) (r .hook) (r .opens) in
@@ -127,7 +127,7 @@ step-atom p h k v l os q r =
     }
 
 pub step-open : (p : Pool) (h : ℕ) (k : Link) (e l : Lst) (os : List Open) (q : Pool) → Reading p h k (list e l) os q
-    → Reading (begun 1 0 k h p) h (inside (p .free)) e (record { cell = p .free; rest = l } ∷ os) q
+    → Reading (hangNew 1 0 k h p) h (inElem (p .free)) e (record { cell = p .free; rest = l } ∷ os) q
 unfolding OpenOff
 step-open p h k e l os q r =
     let o : Open = record { cell = p .free; rest = l } in
@@ -144,7 +144,7 @@ step-open p h k e l os q r =
       aim = ap (λ (z : Built). record { free = z .free; holders = heldBy k h (p .free) (p .holders); cells = z .cells }) (sym q) ∙ r .aim;
     }
 
-pub step-shut : (p : Pool) (h : ℕ) (k : Link) (o : Open) (os : List Open) (q : Pool) → Reading p h k nil (o ∷ os) q → Reading (hang k h 0 p) h (after (o .cell)) (o .rest) os q
+pub step-shut : (p : Pool) (h : ℕ) (k : Link) (o : Open) (os : List Open) (q : Pool) → Reading p h k nil (o ∷ os) q → Reading (hang k h 0 p) h (inNext (o .cell)) (o .rest) os q
 unfolding OpenOff
 step-shut p h k o os q r =
     let long : length (p .cells) ≡ length (hung k 0 (p .cells)) = sym (hung-length k 0 (p .cells)) in
@@ -161,7 +161,7 @@ pub step-end : (p : Pool) (h : ℕ) (k : Link) (q : Pool) → Reading p h k nil 
 step-end p h k q r = ap (λ (z : Built). record { free = z .free; holders = heldBy k h 0 (p .holders); cells = z .cells }) (sym (shut-last (p .free) (hung k 0 (p .cells)))) ∙ r .aim
 
 -- at the start: a sound pool with room
-pub start : (p : Pool) (h : ℕ) (l : Lst) → Sound p → extent l ≤ frees (p .cells) → Reading p h held l [] (read p h l)
+pub start : (p : Pool) (h : ℕ) (l : Lst) → Sound p → extent l ≤ frees (p .cells) → Reading p h inHolder l [] (read p h l)
 unfolding wanted read finished OpenOff
 start p h l s room = record {
   chain = s .chain .0;

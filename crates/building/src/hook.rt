@@ -1,10 +1,8 @@
 // Where the number of the next cell goes, and a cell that begins there.
-ghost use mathlib.Core.Path.{_≡_};
 ghost use Prim.Native.Nat.{_≤_, _<_};
-ghost use Rattle.cells.specs.Range.{Spare};
 ghost use Rattle.table.specs.View.{holderCount, view, Table, Shows};
-ghost use Rattle.reading.specs.Hooks.{linkOf, hookAfter};
-ghost use Rattle.reading.specs.Reading.{hang, begun};
+ghost use Rattle.building.specs.Hooks.{linkOf, Hangs, Hung};
+ghost use Rattle.building.specs.Reading.{hang};
 use table::Shape;
 
 // Cell 0 stands for the holder. Else `inside` 0 is the successor of the cell, and 1 its element.
@@ -13,15 +11,7 @@ pub struct Hook {
     pub inside: usize,
 }
 
-pub fn after(c: u32) -> Hook
-    ensures { λ r. ⌜ r ≡ hookAfter c ⌝ }
-{
-    Hook {
-        cell: c as usize,
-        inside: 0,
-    }
-}
-
+// The number c, of a cell or null, is stored at the hook.
 pub fn hang(s: Shape, t: &mut [u32], h: usize, k: Hook, c: usize)
     requires { ⌜ Table s (now t) ⌝ }
     requires { ⌜ h < holderCount s ⌝ }
@@ -39,13 +29,12 @@ pub fn hang(s: Shape, t: &mut [u32], h: usize, k: Hook, c: usize)
 }
 
 // The head of the free chain becomes a cell whose successor is not known yet, and is named at the hook.
-pub fn begin(s: Shape, t: &mut [u32], h: usize, k: Hook, kind: u32, elem: u32) -> usize
+pub fn hang_new(s: Shape, t: &mut [u32], h: usize, k: Hook, kind: u32, elem: u32) -> usize
     requires { ⌜ Table s (now t) ⌝ }
     requires { ⌜ h < holderCount s ⌝ }
-    requires { ⌜ k .cell ≤ s .cells ⌝ }
+    requires { ⌜ Hangs s h (now t) k ⌝ }
     requires { ⌜ kind ≤ 1 ⌝ }
-    requires { ⌜ Spare s (hang (linkOf k) h (view s (now t) .free) (view s (now t))) ⌝ }
-    ensures { λ r. ⌜ (r ≡ view s (now (t .entry)) .free) × Shows s (now (t .exit)) (begun kind elem (linkOf k) h (view s (now (t .entry)))) ⌝ }
+    ensures { λ r. ⌜ Hung s h (now (t .entry)) k kind elem (now (t .exit)) r ⌝ }
 {
     let f = table::free_head(s, t);
     hang(s, t, h, k, f);

@@ -4,18 +4,17 @@ use mathlib.Core.List.{List, [], _∷_}
 use Prim.Native.Nat.{ℕ, _≤_, _<_}
 use lib.ListN.{length}
 use Rattle.lists.specs.Lst.{Lst}
-use Rattle.pool.specs.Pool.{Cell, Pool, put, nextOf}
+use Rattle.pool.specs.Pool.{Cell, Pool, put, nextOf, Chain}
 use Rattle.pool.specs.Tally.{occ}
-use Rattle.reading.specs.Build.{link, Open, completed, wanted, Link, held, after, inside, hung, heldBy}
-use Rattle.reading.specs.laws.BuildLaws.{Supply}
+use Rattle.building.specs.Build.{link, Open, completed, wanted, Link, inHolder, inNext, inElem, hung, heldBy}
 
 -- the pool with c named where the link says
 abbrev pub hang : Link → ℕ → ℕ → Pool → Pool
 hang k h c p = record { free = p .free; holders = heldBy k h c (p .holders); cells = hung k c (p .cells) }
 
 -- an element begins: the head of the free chain is named where the link says, and becomes a cell whose list and successor are not known yet
-abbrev pub begun : ℕ → ℕ → Link → ℕ → Pool → Pool
-begun t e k h p =
+abbrev pub hangNew : ℕ → ℕ → Link → ℕ → Pool → Pool
+hangNew t e k h p =
     let cs = hung k (p .free) (p .cells) in
     record { free = nextOf cs (p .free); holders = heldBy k h (p .free) (p .holders); cells = put cs (p .free) (record { kind = t; elem = e; count = 1; next = 0 }) }
 
@@ -26,16 +25,22 @@ aimed p h k l os =
     let b = completed (p .free) (hung k c (p .cells)) l os in
     record { free = b .free; holders = heldBy k h c (p .holders); cells = b .cells }
 
--- a cell that is not on the free chain
+-- the free chain has enough cells, none twice
+pub record Supply (cs : List Cell) (f : ℕ) (fs : List ℕ) (n : ℕ) : Type 0 where
+  pub chain : Chain cs f fs
+  pub once : (v : ℕ) → occ fs v ≤ 1
+  pub enough : n ≤ length fs
+
+-- a cell that is not on it
 pub record Off (cs : List Cell) (fs : List ℕ) (c : ℕ) : Type 0 where
   pub low : 0 < c
   pub high : c ≤ length cs
   pub apart : occ fs c ≡ 0
 
 abbrev pub LinkOff : List Cell → List ℕ → Link → Type 0
-LinkOff cs fs held = Unit {0}
-LinkOff cs fs (after x) = Off cs fs x
-LinkOff cs fs (inside x) = Off cs fs x
+LinkOff cs fs inHolder = Unit {0}
+LinkOff cs fs (inNext x) = Off cs fs x
+LinkOff cs fs (inElem x) = Off cs fs x
 
 unfoldable pub OpenOff : List Cell → List ℕ → List Open → Type 0
 OpenOff cs fs [] = Unit {0}

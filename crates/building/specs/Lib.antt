@@ -1,0 +1,5 @@
+pub mod Build
+pub mod Reading
+pub mod Hooks
+pub mod Underway
+pub mod laws
