@@ -22,8 +22,8 @@ abbrev pub walk : ℕ → ℕ → ℕ → Walk
 walk x d k = record { at = x; depth = d; size = k }
 
 -- behind the outermost "("
-abbrev pub begun : ℕ → Walk
-begun x = walk x 1 1
+abbrev pub started : ℕ → Walk
+started x = walk x 1 1
 
 abbrev pub shutAt : List ℕ → Walk → Walk
 shutAt after w = let x = getD after (w .depth - 1) 0 in walk x (w .depth - 1) (w .size + 1 + length (comma x))
@@ -49,7 +49,7 @@ pub data Turn (cs : List Cell) (after : List ℕ) (w : Walk) (next : List ℕ) (
   opens : w .at ≢ 0 → kindOf cs (w .at) ≢ 0 → r ≡ openAt cs w → next ≡ keptAt cs after w → Turn cs after w next r (40 ∷ [])
 
 -- what a turn asks
-pub record Ready (s : Shape) (cs : List Cell) (w : Walk) : Type 0 where
+pub record MayTurn (s : Shape) (cs : List Cell) (w : Walk) : Type 0 where
   pub some : 1 ≤ w .depth
   pub low : w .depth ≤ levels
   pub short : w .size ≤ textMost

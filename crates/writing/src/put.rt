@@ -9,7 +9,7 @@ ghost use Rattle.text.specs.Limits.{levels, textMost};
 ghost use Rattle.table.specs.View.{view, Table, IsCell};
 ghost use Rattle.writing.specs.Numeral.{numeral};
 ghost use Rattle.writing.specs.Put.{Put, Roomy};
-ghost use Rattle.writing.specs.Steps.{comma, shutAt, passAt, Ready, Turn};
+ghost use Rattle.writing.specs.Steps.{comma, shutAt, passAt, MayTurn, Turn};
 ghost use Rattle.writing.specs.Measures.{Stands, Fitting, textAt};
 use crate::atoms;
 use crate::walk;
@@ -59,7 +59,7 @@ fn put_pass(s: Shape, t: &[u32], out: &mut [u8], end: usize, w: Walk) -> Walk
 // As much of the text as a turn of the walk passes.
 fn put_step(s: Shape, t: &[u32], after: &mut Kept, out: &mut [u8], end: usize, w: Walk) -> Walk
     requires { ⌜ Table s (now t) ⌝ }
-    requires { ⌜ Ready s (view s (now t) .cells) w ⌝ }
+    requires { ⌜ MayTurn s (view s (now t) .cells) w ⌝ }
     requires { ⌜ Roomy (view s (now t) .cells) (now after) w end ⌝ }
     requires { ⌜ end ≤ length (now out) ⌝ }
     ensures { λ r. ⌜ ((bs : List ℕ) × Turn (view s (now (t .entry)) .cells) (now (after .entry)) w (now (after .exit)) r bs × Put (now (out .entry)) (now (out .exit)) (w .size) end bs) ⌝ }
@@ -86,7 +86,7 @@ pub fn put(s: Shape, t: &[u32], x: usize, out: &mut [u8], end: usize)
 {
     out[0] = b'(';
     let mut after = [0; Level::MOST as usize];
-    let mut w = Walk::begun(x);
+    let mut w = Walk::started(x);
     while w.depth > 0 {
         w = put_step(s, t, &mut after, out, end, w);
     }

@@ -10,7 +10,7 @@ ghost use lib.ListN.{length};
 ghost use Rattle.answers.specs.Answers.{DONE};
 ghost use Rattle.text.specs.Limits.{levels, textMost};
 ghost use Rattle.table.specs.View.{view, Table, IsCell};
-ghost use Rattle.writing.specs.Steps.{begun, comma, shutAt, passAt, openAt, keptAt, opensAt, Ready, Turn};
+ghost use Rattle.writing.specs.Steps.{started, comma, shutAt, passAt, openAt, keptAt, opensAt, MayTurn, Turn};
 ghost use Rattle.writing.specs.Measures.{Stands, measured, Measures};
 use crate::atoms;
 use answers::Answer;
@@ -35,8 +35,8 @@ pub struct Measured {
 
 impl Walk {
     // behind the outermost "("
-    pub fn begun(x: usize) -> Walk
-        ensures { λ r. ⌜ r ≡ begun x ⌝ }
+    pub fn started(x: usize) -> Walk
+        ensures { λ r. ⌜ r ≡ started x ⌝ }
     {
         Walk {
             at: x,
@@ -140,7 +140,7 @@ fn too_deep(s: Shape, t: &[u32], w: Walk) -> bool
 // The next character, or the digits of an atom, with "," if an element follows.
 fn step(s: Shape, t: &[u32], after: &mut Kept, w: Walk) -> Walk
     requires { ⌜ Table s (now t) ⌝ }
-    requires { ⌜ Ready s (view s (now t) .cells) w ⌝ }
+    requires { ⌜ MayTurn s (view s (now t) .cells) w ⌝ }
     ensures { λ r. ⌜ ((bs : List ℕ) × Turn (view s (now (t .entry)) .cells) (now (after .entry)) w (now (after .exit)) r bs) ⌝ }
 {
     let x = w.at;
@@ -164,7 +164,7 @@ pub fn measure(s: Shape, t: &[u32], x: usize, usable: usize) -> Measured
         return Measured::refused(Answer::OUTPUT);
     }
     let mut after = [0; Level::MOST as usize];
-    let mut w = Walk::begun(x);
+    let mut w = Walk::started(x);
     while w.depth > 0 {
         if too_deep(s, t, w) {
             return Measured::refused(Answer::DEEP);

@@ -20,7 +20,7 @@ use Rattle.writing.specs.Measures.{listAt, textAt, Stands, Fitting}
 use Rattle.writing.specs.Put.{Put, Roomy}
 use Rattle.writing.specs.laws.PutLaws.{put-one}
 use Rattle.writing.specs.Putting.{Putting}
-use Rattle.writing.specs.Steps.{begun, Turn, shuts, passes, opens}
+use Rattle.writing.specs.Steps.{started, Turn, shuts, passes, opens}
 use Rattle.writing.specs.Walking.{rest}
 use Rattle.writing.specs.laws.WalkingLaws.{begins, turned, inside, goes-on, too-deep, ended}
 
@@ -28,7 +28,7 @@ use Rattle.writing.specs.laws.WalkingLaws.{begins, turned, inside, goes-
 pub some-text : (cs : List Cell) (x end : ℕ) → Fitting cs x end → 1 ≤ end
 some-text cs x end f = omega (arith, f .size, ap length (opens-body (listAt cs x)))
 
-pub put-begins : (cs : List Cell) (x end : ℕ) (xs : List ℕ) (w : Walk) → Stands cs x → Fitting cs x end → end ≤ length xs → w ≡ begun x → Putting cs (textAt cs x) (set xs 0 40) end (set xs 0 40) (replicate levels 0) w
+pub put-begins : (cs : List Cell) (x end : ℕ) (xs : List ℕ) (w : Walk) → Stands cs x → Fitting cs x end → end ≤ length xs → w ≡ started x → Putting cs (textAt cs x) (set xs 0 40) end (set xs 0 40) (replicate levels 0) w
 put-begins cs x end xs w h f l e =
     let one : 1 ≤ end = some-text cs x end f in
     let first : take 1 (set xs 0 40) ≡ take 1 (textAt cs x) = put-one xs 0 end 40 one l .text ∙ sym (ap (take 1) (opens-body (listAt cs x))) in

@@ -20,12 +20,12 @@ use Rattle.text.specs.Writing.{judged}
 use Rattle.writing.specs.declared.walk.Walk.{Walk}
 use Rattle.writing.specs.Numeral.{numeral}
 use Rattle.writing.specs.laws.NumeralLaws.{some-digits}
-use Rattle.writing.specs.Steps.{comma, begun, shutAt, passAt, openAt, keptAt, Turn, shuts, passes, opens, Ready}
+use Rattle.writing.specs.Steps.{comma, started, shutAt, passAt, openAt, keptAt, Turn, shuts, passes, opens, MayTurn}
 use Rattle.writing.specs.Measures.{listAt, textAt, Stands}
 use Rattle.writing.specs.Walking.{rest, Here, Walking, Turned}
 use Rattle.writing.specs.laws.TurnLaws.{goes-shut, goes-pass, goes-open, opening, live-here, judges-shut, judges-pass, judges-open}
 
-pub begins : (cs : List Cell) (x u : ℕ) (w : Walk) → Stands cs x → 1 ≤ u → w ≡ begun x → Walking cs (textAt cs x) u (replicate levels 0) w
+pub begins : (cs : List Cell) (x u : ℕ) (w : Walk) → Stands cs x → 1 ≤ u → w ≡ started x → Walking cs (textAt cs x) u (replicate levels 0) w
 begins cs x u w h l q =
     let k : Lst = listAt cs x in
     let e : textOf k ≡ 40 ∷ (body k ++ []) = opens-body k ∙ ap (λ (b : List ℕ). 40 ∷ b) (sym (append-nil (body k))) in
@@ -132,8 +132,8 @@ module _ (cs : List Cell) (t : List ℕ) (u : ℕ) (after : List ℕ) (w : Walk)
       let q = live-cell cs (w .at) (live-here cs after (g .opened) (w .at) (omega (arith, g .stands .deep)) (g .stands .here) n) in
       record { low = q .0; high = omega (arith, q .1, m) }
 
-  pub ready : (s : Shape) → length cs ≡ s .cells → u ≤ textMost → (w .at ≢ 0 → kindOf cs (w .at) ≢ 0 → w .depth < levels) → Ready s cs w
-  ready s m h room = record { some = some; low = g .stands .low; short = omega (arith, g .short); cell = at-cell s m; room = room }
+  pub may-turn : (s : Shape) → length cs ≡ s .cells → u ≤ textMost → (w .at ≢ 0 → kindOf cs (w .at) ≢ 0 → w .depth < levels) → MayTurn s cs w
+  may-turn s m h room = record { some = some; low = g .stands .low; short = omega (arith, g .short); cell = at-cell s m; room = room }
 
 -- no level is open any more
 pub ended : (cs : List Cell) (t : List ℕ) (u : ℕ) (after : List ℕ) (w : Walk) → Walking cs t u after w → w .depth ≡ 0 → (w .size ≡ length t) × (judged u 0 t ≡ DONE)

@@ -47,11 +47,12 @@ same-length-2 c = search needs
 
 returns-2 : tie.Need-returns-2
 returns-2 c =
-    let after-work-out = c .before .before .before .before .before .before in
+    let after-copy = c .before .before in
+    let after-work-out = after-copy .before .before .before .before in
     let a = after-work-out .before .before .before .before .args in
     let w = after-work-out .work-out in
     let k = after-work-out .before .count in
-    put-store _ _ _ (numeral _) (a .at) (a .end) (k .result) (k .result) (c .before .before .copy .ensures) (omega arith) (omega arith) (omega arith)
+    put-store _ _ _ (numeral _) (a .at) (a .end) (k .result) (k .result) (after-copy .copy .ensures) (omega arith) (omega arith) (omega arith)
     (k .ensures .0) (w .ensures .1) (omega arith)
 
 same-length-3 : tie.Need-same-length-3
@@ -59,10 +60,11 @@ same-length-3 c = search needs
 
 returns-3 : tie.Need-returns-3
 returns-3 c =
-    let after-work-out = c .before .before .before .before .before .before in
+    let after-copy = c .before .before in
+    let after-work-out = after-copy .before .before .before .before in
     let w = after-work-out .work-out in
     let k = after-work-out .before .count in
-    put-store _ _ _ (numeral _) _ _ _ digitsMost (c .before .before .copy2 .ensures) (omega arith) (omega arith) (omega arith) (k .ensures .0) (w .ensures .1)
+    put-store _ _ _ (numeral _) _ _ _ digitsMost (after-copy .copy2 .ensures) (omega arith) (omega arith) (omega arith) (k .ensures .0) (w .ensures .1)
     (omega arith)
 
 pub put-atom-spec : {M : Type 1} → statement M

@@ -1,4 +1,5 @@
--- `writing::put::put` meets its contract. The invariant: the characters that the walk has passed are in their places. Each turn passes one, so that those left fall.
+-- `writing::put::put` meets its contract. The invariant: the characters that the walk has passed are in their places.
+-- Each turn passes one, so that those left fall.
 use Prim.Native.Nat.{_-_, _≤_, _<_}
 use mathlib.Core.Path.{_∙_}
 use native.Mathlib.Omega.{arith}
@@ -8,7 +9,7 @@ use Rattle.table.specs.View.{view}
 use Rattle.writing.specs.Measures.{textAt}
 use Rattle.writing.specs.Putting.{Putting}
 use Rattle.writing.specs.laws.PuttingLaws.{some-text, put-begins, shallow, roomy, put-on, put-ends}
-use Rattle.writing.specs.laws.WalkingLaws.{ready}
+use Rattle.writing.specs.laws.WalkingLaws.{may-turn}
 use Rattle.writing.proofs.put.put.Statement.{statement}
 use Rattle.writing.proofs.put.put.Tie as tie
 
@@ -33,14 +34,14 @@ went c =
 slice-write-out : tie.Need-slice-write-out Inv-loop μ-loop
 slice-write-out c = omega (arith, some-text _ _ _ (c .before .before .pre .1 .1 .0))
 
-begun-requires : tie.Need-begun-requires Inv-loop μ-loop
-begun-requires c κs = search needs
+started-requires : tie.Need-started-requires Inv-loop μ-loop
+started-requires c κs = search needs
 
 loop-holds : tie.Need-loop-holds Inv-loop μ-loop
 loop-holds c =
     let start = c .before .before .before in
     let q = start .pre in
-    put-begins _ _ _ (start .args .out .now) _ (q .1 .0) (q .1 .1 .0) (q .1 .1 .1) (c .begun .ensures)
+    put-begins _ _ _ (start .args .out .now) _ (q .1 .0) (q .1 .1 .0) (q .1 .1 .1) (c .started .ensures)
 
 put-step-requires : tie.Need-put-step-requires Inv-loop μ-loop
 put-step-requires c κs =
@@ -51,7 +52,7 @@ put-step-requires c κs =
     let g = turn .loop .inv in (
       q .0,
       (
-        ready _ _ _ _ _ (g .walks) (omega arith) _ (q .0 .measured) (f .short) (shallow _ _ _ _ _ _ (turn .loop .w) g (omega arith) (f .fits)),
+        may-turn _ _ _ _ _ (g .walks) (omega arith) _ (q .0 .measured) (f .short) (shallow _ _ _ _ _ _ (turn .loop .w) g (omega arith) (f .fits)),
         (
           roomy _ _ _ _ (turn .loop .out) (turn .loop .after) (turn .loop .w) g (omega arith) (f .fits) (f .size),
           omega (arith, length-set (start .args .out .now) 0 40),
@@ -67,13 +68,13 @@ loop-again c = went (c .before .before) .0
 
 same-length : tie.Need-same-length Inv-loop μ-loop
 same-length c =
-    let start = c .before .before .before .before .before .before in
-    c .before .before .loop .inv .room ∙ length-set (start .args .out .now) 0 40
+    let turn = c .before .before in
+    turn .loop .inv .room ∙ length-set (turn .before .before .before .before .args .out .now) 0 40
 
 returns : tie.Need-returns Inv-loop μ-loop
 returns c =
-    let start = c .before .before .before .before .before .before in
-    put-ends _ _ _ _ _ _ _ (c .before .before .loop .inv) (start .pre .1 .1 .0) (omega arith)
+    let turn = c .before .before in
+    put-ends _ _ _ _ _ _ _ (turn .loop .inv) (turn .before .before .before .before .pre .1 .1 .0) (omega arith)
 
 pub put-spec : {M : Type 1} → statement M
 put-spec =
@@ -82,7 +83,7 @@ put-spec =
     Inv-loop
     μ-loop
     slice-write-out
-    begun-requires
+    started-requires
     loop-holds
     put-step-requires
     loop-less

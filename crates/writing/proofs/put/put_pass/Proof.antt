@@ -32,7 +32,8 @@ same-length c = search needs
 
 returns : tie.Need-returns
 returns c =
-    let after-put-atom = c .before .before .before .before .before .before in
+    let after-part = c .before .before in
+    let after-put-atom = after-part .before .before .before .before in
     let after-pass = after-put-atom .before .before in
     let a = after-pass .before .before .before .before .args in
     let cs = view (a .s) (a .t .now) .cells in
@@ -41,7 +42,7 @@ returns c =
     let q = pass-size cs (a .w) (after-pass .pass .result) e in (
       e,
       put-then (a .out .now) _ _ (numeral (elemOf cs (a .w .at))) _ (a .w .size) _ (a .end) (put-value (v .ensures) (after-put-atom .put-atom .ensures))
-          (omega (arith, q .0)) (c .before .before .part .ensures),
+          (omega (arith, q .0)) (after-part .part .ensures),
     )
 
 pub put-pass-spec : {M : Type 1} → statement M

@@ -23,8 +23,9 @@ part-requires c κs =
 
 same-length : tie.Need-same-length
 same-length c =
-    let a = c .before .before .before .before .before .before .args in
-    c .before .before .part .ensures .room ∙ length-set (a .out .now) (a .w .size) 41
+    let after-part = c .before .before in
+    let a = after-part .before .before .before .before .args in
+    after-part .part .ensures .room ∙ length-set (a .out .now) (a .w .size) 41
 
 returns : tie.Need-returns
 returns c =

@@ -26,7 +26,9 @@ add-t12 : tie.Need-add-t12
 add-t12 c = search needs
 
 returns : tie.Need-returns
-returns c = opened-at _ (c .before .before .before .before .args .after .now) (c .before .before .before .before .args .w) _ _ (c .before .before .next-of .ensures .0) (c .before .elem-of .ensures)
+returns c =
+    let a = c .before .before .before .before .args in
+    opened-at _ (a .after .now) (a .w) _ _ (c .before .before .next-of .ensures .0) (c .before .elem-of .ensures)
 
 pub open-spec : {M : Type 1} → statement M
 open-spec =

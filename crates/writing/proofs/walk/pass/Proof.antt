@@ -23,7 +23,10 @@ add-t10 : tie.Need-add-t10
 add-t10 c = search needs
 
 returns : tie.Need-returns
-returns c = passed _ (c .before .before .before .before .before .before .args .w) _ _ _ _ (c .before .before .before .before .next-of .ensures .0) (c .before .before .before .elem-of .ensures) (c .before .before .count .ensures .0) (c .commas .ensures .0)
+returns c =
+    let after-next = c .before .before .before .before in
+    passed _ (after-next .before .before .args .w) _ _ _ _ (after-next .next-of .ensures .0) (c .before .before .before .elem-of .ensures)
+    (c .before .before .count .ensures .0) (c .commas .ensures .0)
 
 pub pass-spec : {M : Type 1} → statement M
 pass-spec =

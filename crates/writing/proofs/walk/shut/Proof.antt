@@ -26,7 +26,10 @@ add-t9 : tie.Need-add-t9
 add-t9 c = search needs
 
 returns : tie.Need-returns
-returns c = let a = c .before .before .before .before .args in ap (λ (n : ℕ). walk (getD (a .after .now) (a .w .depth - 1) 0) (a .w .depth - 1) (a .w .size + 1 + n)) (c .commas .ensures .0)
+returns c =
+    let a = c .before .before .before .before .args in
+    let depth = a .w .depth - 1 in
+    ap (λ (n : ℕ). walk (getD (a .after .now) depth 0) depth (a .w .size + 1 + n)) (c .commas .ensures .0)
 
 pub shut-spec : {M : Type 1} → statement M
 shut-spec =
