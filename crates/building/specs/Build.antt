@@ -1,11 +1,13 @@
--- Reading cell by cell, as the code does it: a new cell's fields are known when its element begins, but for the successor of a list, which is
--- stored when the list has ended. What is still to be read is the rest of each open list, innermost first.
+-- Reading cell by cell, as the code does it: a new cell's fields are known when its element begins, but for the
+-- successor of a list, which is stored when the list has ended. What is still to be read is the rest of each open list,
+-- innermost first.
 use mathlib.Core.List.{List, [], _∷_}
 use Prim.Native.Nat.{ℕ, _+_}
 use lib.ListN.{set}
 use Rattle.lists.specs.Lst.{Lst, nil, atom, list, extent}
 use Rattle.pool.specs.Operations.{load}
 use Rattle.pool.specs.Pool.{Cell, put, kindOf, countOf, nextOf, setNext}
+use Rattle.pool.specs.Setters.{cell}
 
 -- where a list goes on: null, or the next free cell
 abbrev pub link : Lst → ℕ → ℕ
@@ -51,7 +53,7 @@ pub data Link : Type 0 where
 
 -- the element of a cell replaced
 abbrev pub setElem : List Cell → ℕ → ℕ → List Cell
-setElem cs c e = put cs c (record { kind = kindOf cs c; elem = e; count = countOf cs c; next = nextOf cs c })
+setElem cs c e = put cs c (cell (kindOf cs c) e (countOf cs c) (nextOf cs c))
 
 -- the cells, and the holders, with c named there
 abbrev pub hung : Link → ℕ → List Cell → List Cell

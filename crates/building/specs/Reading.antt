@@ -1,10 +1,11 @@
--- A pool while a text is read into holder h: what is still to come, and the pool that all of it will make.
+-- A pool while a list is read into holder h: what is still to come, and the pool that all of it will make.
 use mathlib.Core.Path.{_≡_}
 use mathlib.Core.List.{List, [], _∷_}
 use Prim.Native.Nat.{ℕ, _≤_, _<_}
 use lib.ListN.{length}
 use Rattle.lists.specs.Lst.{Lst}
-use Rattle.pool.specs.Pool.{Cell, Pool, put, nextOf, Chain}
+use Rattle.pool.specs.Pool.{Cell, Pool, Chain}
+use Rattle.pool.specs.Setters.{cell, newCell}
 use Rattle.pool.specs.Tally.{occ}
 use Rattle.building.specs.Build.{link, Open, completed, wanted, Link, inHolder, inNext, inElem, hung, heldBy}
 
@@ -12,11 +13,10 @@ use Rattle.building.specs.Build.{link, Open, completed, wanted, Link, in
 abbrev pub hang : Link → ℕ → ℕ → Pool → Pool
 hang k h c p = record { free = p .free; holders = heldBy k h c (p .holders); cells = hung k c (p .cells) }
 
--- an element begins: the head of the free chain is named where the link says, and becomes a cell whose list and successor are not known yet
+-- an element begins: the head of the free chain is named where the link says, and becomes a cell whose list and
+-- successor are not known yet
 abbrev pub hangNew : ℕ → ℕ → Link → ℕ → Pool → Pool
-hangNew t e k h p =
-    let cs = hung k (p .free) (p .cells) in
-    record { free = nextOf cs (p .free); holders = heldBy k h (p .free) (p .holders); cells = put cs (p .free) (record { kind = t; elem = e; count = 1; next = 0 }) }
+hangNew t e k h p = newCell (p .free) (cell t e 1 0) (hang k h (p .free) p)
 
 -- the pool when l, the rest of the innermost list, and the rests of the open ones are read
 abbrev pub aimed : Pool → ℕ → Link → Lst → List Open → Pool

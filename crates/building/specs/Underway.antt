@@ -1,4 +1,5 @@
--- Reading mark by mark, whatever stored form the marks come from: what holds between two marks, and what each of them does.
+-- Reading mark by mark, whatever stored form the marks come from: what holds between two marks, and what each of them
+-- does.
 use mathlib.Core.Path.{_≡_}
 use mathlib.Core.List.{List, [], _∷_, _++_}
 use mathlib.Core.Bool.{false}
@@ -47,7 +48,8 @@ Comes p h k ms = (cs : List ℕ) × Coming p h k cs ms
 pub record Steps (s : Shape) (h : ℕ) (ts : List ℕ) (k : Hook) (cs : List ℕ) (ms : List Mark)
     (us : List ℕ) (j : Hook) (ds : List ℕ) : Type 0 where
   pub table : Table s us
-  pub leads : (q : Pool) (later : List Mark) → LeadsTo (view s ts) h k cs q (ms ++ later) → LeadsTo (view s us) h j ds q later
+  pub leads : (q : Pool) (later : List Mark)
+      → LeadsTo (view s ts) h k cs q (ms ++ later) → LeadsTo (view s us) h j ds q later
 
 -- a list begins, and its cell is that of the new hook
 abbrev pub BeginsList : Shape → ℕ → List ℕ → Hook → List ℕ → Hook → Type 0

@@ -1,5 +1,6 @@
-// Cells from the marks of a stored form, whatever form it is: a list begins, an atom, a list ends. Every element gets its cell where it
-// begins, from the head of the free chain; what the cell does not know yet is null, and is stored when the next mark tells it.
+// Cells from the marks of a stored form, whatever form it is: a list begins, an atom, a list ends. Every element gets
+// its cell where it begins, from the head of the free chain; what the cell does not know yet is null, and is stored
+// when the next mark tells it.
 ghost use mathlib.Core.List.{[], _∷_};
 ghost use Prim.Native.Nat.{_<_};
 ghost use Rattle.table.specs.View.{holderCount, view, Table};

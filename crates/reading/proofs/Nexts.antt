@@ -29,7 +29,9 @@ use Rattle.reading.specs.laws.AcceptingLaws.{refuted, inside}
 -- behind a ")", with a list open
 module _ {s : List ℕ} (t : Taken s) {depth e at d i : ℕ} (said : Said s (closedAt depth at) at) (k : Shutting s depth e at d i) (deep : 1 ≤ d) where
   pub goes-on : i < length s
-  goes-on = decide (leb (length s) i) (i < length s) (λ q. refuted s t 15 (sym said ∙ closed-out k deep (leb-true (length s) i q))) (λ q. leb-false (length s) i q)
+  goes-on =
+      decide (leb (length s) i) (i < length s) (λ q. refuted s t 15 (sym said ∙ closed-out k deep (leb-true (length s) i q)))
+      (λ q. leb-false (length s) i q)
 
   pub shuts-there : (getD s i 0 ≡ 44 → ⊥) → getD s i 0 ≡ 41
   shuts-there c = go (ℕ-discrete (getD s i 0) 41)
@@ -53,10 +55,13 @@ module _ {s : List ℕ} {p : Place} (a : Amid s p) where
   no-fault : {A : Type 0} (k : ℕ) → places.Taken s p (Fault k) → A
   no-fault k w = refuted s (a .taken) k (sym (a .place .answered) ∙ w)
 
-  pub opens : getD s (p .at) 0 ≡ 40 → Goes s p (placed (p .at + 1) (p .depth + 1) (p .elements + 1) true)
+  abbrev inner : Place
+  inner = placed (p .at + 1) (p .depth + 1) (p .elements + 1) true
+
+  pub opens : getD s (p .at) 0 ≡ 40 → Goes s p inner
   opens q = go (leb levels (p .depth)) (taken-open here q)
     where
-      go : (b : Bool) → places.Taken s p (cond b (Fault 17) (Mark (placed (p .at + 1) (p .depth + 1) (p .elements + 1) true))) → Goes s p (placed (p .at + 1) (p .depth + 1) (p .elements + 1) true)
+      go : (b : Bool) → places.Taken s p (cond b (Fault 17) (Mark inner)) → Goes s p inner
       go true w = no-fault 17 w
       go false w = w
 

@@ -45,7 +45,8 @@ fn shut(s: Shape, t: &mut [u32], h: usize, k: Hook, lists: &Lists, from: u32, to
     at
 }
 
-// What stands between two places of the text: a list begins, or an atom of the value v or nothing stands before the ends of lists.
+// What stands between two places of the text: a list begins, or an atom of the value v or nothing stands before the
+// ends of lists.
 fn add(
     s: Shape,
     t: &mut [u32],

@@ -55,12 +55,14 @@ module _ {s : List ℕ} {depth e at d i : ℕ} (k : Shutting s depth e at d i) w
 
     pub closed-out : length s ≤ i → Closed s depth e at (Fault 15)
     closed-out h =
-        ap (λ (x : Prospect). x .answered) (stands ∙ ap (λ (l : List ℕ). behind (shuts (depth - d)) (prospect (text.at scanBehind i) l)) (drop-of-length-le s h))
+        ap (λ (x : Prospect). x .answered)
+        (stands ∙ ap (λ (l : List ℕ). behind (shuts (depth - d)) (prospect (text.at scanBehind i) l)) (drop-of-length-le s h))
 
     module _ (some : i < length s) where
       pub closed-comma : 1 ≤ at → getD s i 0 ≡ 44 → Closed s depth e at (step.Mark (placed (i + 1) d e false))
       closed-comma low q =
-          let w = comma-on s (at - 1) scanBehind i (omega (arith, k .from)) some deep (k .levelled) e e depth (k .high) refl (omega arith) (omega (arith, k .counted)) q in
+          let w = comma-on s (at - 1) scanBehind i (omega (arith, k .from)) some deep (k .levelled) e e depth (k .high) refl (omega arith)
+          (omega (arith, k .counted)) q in
           record {
             on = w .on;
             within = w .within;

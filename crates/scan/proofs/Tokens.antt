@@ -13,7 +13,8 @@ use Rattle.text.specs.Marks as marks
 use Rattle.text.specs.Marks.{Mark, beginnings, shut, value}
 use Rattle.text.specs.laws.TextLaws.{class}
 use Rattle.scan.specs.Runs.{digitRun, numeral}
-use Rattle.scan.specs.Places.{placed, openOf, tooLong, closedAt, phaseOf, Prospect, prospect, prospectAt, shuts, emitted, Inside, Onward, Told, Taken, Closed}
+use Rattle.scan.specs.Places.{placed, openOf, tooLong, closedAt, phaseOf, Prospect, prospect, prospectAt}
+use Rattle.scan.specs.Places.{shuts, emitted, Inside, Onward, Told, Taken, Closed}
 use Rattle.scan.specs.declared.step.Place.{Place}
 use Rattle.scan.specs.declared.step.Step.{Step}
 use Rattle.scan.specs.declared.step.Step.the-variants as step
@@ -57,7 +58,8 @@ module _ {s : List ℕ} {p : Place} (h : Inside s p) where
   pub taken-open : getD s (p .at) 0 ≡ 40 → Taken s p (openOf (p .depth) (p .elements) (p .at))
   taken-open q =
       told (openOf (p .depth) (p .elements) (p .at))
-      (open-told s (p .at) scanAt (p .at) (omega arith) (h .some) (h .deep) (h .levelled) (p .elements) (emitted s p) emits-open ((may-begin (p .first)) .0) (h .counted) q)
+      (open-told s (p .at) scanAt (p .at) (omega arith) (h .some) (h .deep) (h .levelled) (p .elements) (emitted s p) emits-open
+      ((may-begin (p .first)) .0) (h .counted) q)
 
   pub taken-shut : p .first ≡ true → getD s (p .at) 0 ≡ 41 → (u : Step) → Closed s (p .depth - 1) (p .elements) (p .at + 1) u → Taken s p u
   taken-shut f q u w =
@@ -131,7 +133,8 @@ module _ {s : List ℕ} {p : Place} (h : Inside s p) where
           ap (λ (v : ℕ). value v ∷ []) (on .is) ∙ sym (emits-atom x 0 (omega arith) refl (omega arith)) in
           told-in (step.Mark x)
           (subst (λ (ms : List Mark). Onward s (p .at) (p .elements) (p .depth + 1) (prospect (at scanIn i) (drop i s)) ms x) is
-          (comma-on s (p .at) scanIn i (omega arith) some (h .deep) (h .levelled) (p .elements) (p .elements + 1) (p .depth + 1) (omega arith) refl (omega arith) (omega (arith, h .counted)) q))
+          (comma-on s (p .at) scanIn i (omega arith) some (h .deep) (h .levelled) (p .elements) (p .elements + 1) (p .depth + 1) (omega arith) refl
+          (omega arith) (omega (arith, h .counted)) q))
 
       pub taken-other : i < length s → (getD s i 0 ≡ 44 → ⊥) → (getD s i 0 ≡ 41 → ⊥) → Taken s p (Fault 15)
       taken-other some x y =

@@ -9,7 +9,8 @@ use lib.Dec.{leb, ltb}
 use borrow.Author.Tests.{lt-ltb, le-ltb, ne-eqb, eq-eqb, leb-true, leb-false, ltb-true, ltb-false}
 use Rattle.text.specs.Limits.{levels}
 use Rattle.text.specs.Text as text
-use Rattle.text.specs.Text.{Scan, place, afterOpen, afterComma, afterElement, mayOpen, mayShut, mayPart, mark, fault, State, at, settle, stepOf, shutAt, refusal}
+use Rattle.text.specs.Text.{Scan, place, afterOpen, afterComma, afterElement, mayOpen, mayShut, mayPart, mark}
+use Rattle.text.specs.Text.{fault, State, at, settle, stepOf, shutAt, refusal}
 use Rattle.text.specs.Marks as marks
 use Rattle.text.specs.Marks.{Mark, met, beginnings, pending, shut}
 use Rattle.text.specs.laws.TextLaws.{by-case}
@@ -53,7 +54,7 @@ module _ (s : List ℕ) (a : ℕ) (t : Scan) (i : ℕ) (from : a ≤ i) (some : 
   pub fault-told : (b n : ℕ) → getD s i 0 ≡ b → stepOf t b ≡ fault n → here .answered ≡ refusal n
   fault-told b n q f = stops s t i n some (ap (stepOf t) q ∙ f)
 
-  -- ",", which leaves n elements beginnings
+  -- ",", which leaves n elements begun
   pub comma-on : (e n top : ℕ) → t .depth ≤ top → mayPart (t .phase) ≡ true → n ≡ e + beginnings (pending t) → n ≤ i + 1 → getD s i 0 ≡ 44
       → Onward s a e top here (pending t) (placed (i + 1) (t .depth) n false)
   comma-on e n top high may c count q =
@@ -77,7 +78,7 @@ module _ (s : List ℕ) (a : ℕ) (t : Scan) (i : ℕ) (from : a ≤ i) (some : 
       becomes 41 q
       ∙ ap (λ (v : State). behind (pending t ++ (shut ∷ [])) (prospect v (drop (i + 1) s))) (ap (settle (i + 1)) step ∙ shutting (i + 1) (t .depth) deep)
 
-  -- ")", which leaves n elements beginnings, and what follows it
+  -- ")", which leaves n elements begun, and what follows it
   pub shut-told : (e n : ℕ) (m : Place → List Mark) → n ≡ e + beginnings (pending t)
       → ((q : Place) → q .depth ≤ t .depth - 1 → q .elements ≡ n → m q ≡ pending t ++ (shut ∷ shuts (t .depth - 1 - q .depth)))
       → mayShut (t .phase) ≡ true → getD s i 0 ≡ 41 → (u : Step) → Closed s (t .depth - 1) n (i + 1) u → Told s a e (t .depth + 1) here m u

@@ -1,4 +1,5 @@
--- Places in a text, of the code and of the automaton: what a place says of the rest of the text, and what a step from it must say.
+-- Places in a text, of the code and of the automaton: what a place says of the rest of the text, and what a step from
+-- it must say.
 use Prim.Native.Nat.{ℕ, zero, suc, _+_, _-_, _<_, _≤_}
 use mathlib.Core.Path.{_≡_}
 use mathlib.Core.List.{List, [], _∷_, _++_}
@@ -87,7 +88,8 @@ shuts (suc n) = shut ∷ shuts n
 -- the marks between two places: a list begins, or an atom of the value v or nothing stands before the ends of lists
 abbrev pub passed : ℕ → Place → Place → List Mark
 passed v p q =
-    cond (ltb (p .depth) (q .depth)) (marks.opened ∷ []) (cond (ltb (p .elements) (q .elements)) (value v ∷ []) [] ++ shuts (p .depth - q .depth))
+    let atom = cond (ltb (p .elements) (q .elements)) (value v ∷ []) [] in
+    cond (ltb (p .depth) (q .depth)) (marks.opened ∷ []) (atom ++ shuts (p .depth - q .depth))
 
 abbrev pub emitted : List ℕ → Place → Place → List Mark
 emitted s p q = passed (numeral 0 (drop (p .at) s)) p q

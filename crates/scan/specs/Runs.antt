@@ -17,8 +17,8 @@ numeral v (b ∷ bs) = cond (isDigit b) (numeral (v * 8 + (b - 48)) bs) v
 
 abbrev pub bytesAt : List ℕ → ℕ → List ℕ
 bytesAt s i =
-    getD s i 0 ∷ getD s (i + 1) 0 ∷ getD s (i + 2) 0 ∷ getD s (i + 3) 0 ∷ getD s (i + 4) 0 ∷ getD s (i + 5) 0 ∷ getD s (i + 6) 0
-    ∷ getD s (i + 7) 0 ∷ []
+    getD s i 0 ∷ getD s (i + 1) 0 ∷ getD s (i + 2) 0 ∷ getD s (i + 3) 0 ∷ getD s (i + 4) 0 ∷ getD s (i + 5) 0
+    ∷ getD s (i + 6) 0 ∷ getD s (i + 7) 0 ∷ []
 
 abbrev pub Bytes : List ℕ → Type 0
 Bytes [] = Unit {0}

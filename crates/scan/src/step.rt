@@ -1,5 +1,5 @@
 // One reading step: from a place where an element is to begin to the next such place, by a mark or with a fault.
-// A step takes along what follows its element: ",", or every ")" up to the "," behind them or up to the end of the list.
+// A step takes along what follows its element: ",", or every ")" up to the "," behind them or to the end of the list.
 ghost use mathlib.Core.Path.{_≡_};
 ghost use mathlib.Core.Bool.{true};
 ghost use Prim.Native.Nat.{_≤_, _<_};
@@ -12,7 +12,8 @@ use crate::limits::Level;
 use crate::octals;
 use answers::Answer;
 
-// Bytes behind, levels open, elements begun; `first`: behind a "(", where a ")" may stand too. No level is open behind the whole list.
+// Bytes behind, levels open, elements begun; `first`: behind a "(", where a ")" may stand too. No level is open behind
+// the whole list.
 pub struct Place {
     pub at: usize,
     pub depth: u32,

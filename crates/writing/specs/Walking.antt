@@ -1,4 +1,5 @@
--- Where the walk through a list stands: the text that is still to come, from the list at hand and those with which the open levels go on.
+-- Where the walk through a list stands: the text that is still to come, from the list at hand and those with which the
+-- open levels go on.
 -- A turn takes its characters off the front of that text.
 use Prim.Native.Nat.{ℕ, suc, _+_, _-_, _≤_}
 use mathlib.Core.Path.{_≡_}
@@ -51,7 +52,8 @@ pub record Walking (cs : List Cell) (t : List ℕ) (u : ℕ) (after : List ℕ) 
 
 -- the judgement over the characters of a turn, from d open levels to e: all of them fit, or OUTPUT
 abbrev pub Judges : ℕ → ℕ → List ℕ → List ℕ → Type 0
-Judges d e bs t = (left : ℕ) → judged left d (bs ++ t) ≡ cond (leb (length bs) left) (judged (left - length bs) e t) OUTPUT
+Judges d e bs t =
+    (left : ℕ) → judged left d (bs ++ t) ≡ cond (leb (length bs) left) (judged (left - length bs) e t) OUTPUT
 
 -- a turn in the text t
 pub record Turned (cs : List Cell) (t : List ℕ) (next : List ℕ) (w r : Walk) (bs : List ℕ) : Type 0 where

@@ -45,7 +45,8 @@ fn copy(out: &mut [u8], at: usize, store: &[u8; Digits::MOST], n: usize)
     }
 }
 
-// An atom in a text that ends at `end`. Where the whole store has room it is copied whole: what comes later stands over its end.
+// An atom in a text that ends at `end`. Where the whole store has room it is copied whole: what comes later stands over
+// its end.
 pub fn put_atom(out: &mut [u8], at: usize, end: usize, v: u32)
     requires { ⌜ (at + length (numeral v) ≤ end) × (end ≤ length (now out)) ⌝ }
     ensures { λ r. ⌜ Put (now (out .entry)) (now (out .exit)) at end (numeral v) ⌝ }

@@ -1,15 +1,12 @@
 // The bytes of a text whose size is known, each in its place.
 ghost use mathlib.Core.Path.{_≡_};
-ghost use mathlib.Core.List.{List, _∷_, _++_};
-ghost use Prim.Native.Nat.{ℕ, _-_, _≤_};
+ghost use Prim.Native.Nat.{_-_, _≤_};
 ghost use lib.ListN.{length};
-ghost use Rattle.pool.specs.Pool.{elemOf};
 ghost use Rattle.calls.specs.Entry.{over};
 ghost use Rattle.text.specs.Limits.{levels, textMost};
 ghost use Rattle.table.specs.View.{view, Table, IsCell};
-ghost use Rattle.writing.specs.Numeral.{numeral};
-ghost use Rattle.writing.specs.Put.{Put, Roomy};
-ghost use Rattle.writing.specs.Steps.{comma, shutAt, passAt, MayTurn, Turn};
+ghost use Rattle.writing.specs.Put.{Put, PutShut, PutPass, PutTurn, Roomy};
+ghost use Rattle.writing.specs.Steps.{comma, shutAt, passAt, MayTurn};
 ghost use Rattle.writing.specs.Measures.{Stands, Fitting, textAt};
 use crate::atoms;
 use crate::walk;
@@ -33,7 +30,7 @@ fn part(out: &mut [u8], end: usize, w: Walk)
 fn put_shut(after: &Kept, out: &mut [u8], end: usize, w: Walk) -> Walk
     requires { ⌜ (1 ≤ w .depth) × (w .depth ≤ levels) × (w .size ≤ textMost) ⌝ }
     requires { ⌜ (shutAt (now after) w .size ≤ end) × (end ≤ length (now out)) ⌝ }
-    ensures { λ r. ⌜ (r ≡ shutAt (now (after .entry)) w) × Put (now (out .entry)) (now (out .exit)) (w .size) end (41 ∷ comma (r .at)) ⌝ }
+    ensures { λ r. ⌜ PutShut (now (after .entry)) w (now (out .entry)) (now (out .exit)) end r ⌝ }
 {
     let at = w.size;
     out[at] = b')';
@@ -47,7 +44,7 @@ fn put_pass(s: Shape, t: &[u32], out: &mut [u8], end: usize, w: Walk) -> Walk
     requires { ⌜ Table s (now t) ⌝ }
     requires { ⌜ IsCell s (w .at) ⌝ }
     requires { ⌜ (w .size ≤ textMost) × (passAt (view s (now t) .cells) w .size ≤ end) × (end ≤ length (now out)) ⌝ }
-    ensures { λ r. ⌜ (r ≡ passAt (view s (now (t .entry)) .cells) w) × Put (now (out .entry)) (now (out .exit)) (w .size) end (numeral (elemOf (view s (now (t .entry)) .cells) (w .at)) ++ comma (r .at)) ⌝ }
+    ensures { λ r. ⌜ PutPass (view s (now (t .entry)) .cells) w (now (out .entry)) (now (out .exit)) end r ⌝ }
 {
     let v = table::elem_of(s, t, w.at);
     let r = walk::pass(s, t, w);
@@ -62,7 +59,8 @@ fn put_step(s: Shape, t: &[u32], after: &mut Kept, out: &mut [u8], end: usize, w
     requires { ⌜ MayTurn s (view s (now t) .cells) w ⌝ }
     requires { ⌜ Roomy (view s (now t) .cells) (now after) w end ⌝ }
     requires { ⌜ end ≤ length (now out) ⌝ }
-    ensures { λ r. ⌜ ((bs : List ℕ) × Turn (view s (now (t .entry)) .cells) (now (after .entry)) w (now (after .exit)) r bs × Put (now (out .entry)) (now (out .exit)) (w .size) end bs) ⌝ }
+    ensures { λ r. ⌜ PutTurn (view s (now (t .entry)) .cells) (now (after .entry)) w (now (after .exit)) r
+        (now (out .entry)) (now (out .exit)) end ⌝ }
 {
     let x = w.at;
     if x == 0 {

@@ -1,16 +1,16 @@
 // The way through a list, from the first character of its text to the last, and the size of that text.
-// Where it stands is a cell, the number of open levels and that of the characters passed; each open level has the cell with which it goes on kept.
+// Where it stands is a cell, the number of open levels and that of the characters passed; each open level has the cell
+// with which it goes on kept.
 ghost use mathlib.Core.Path.{_≡_};
 ghost use mathlib.Core.Bool.{_&&_};
-ghost use mathlib.Core.List.{List};
 ghost use mathlib.Core.Logic.{_≢_};
-ghost use Prim.Native.Nat.{ℕ, _<_, _≤_};
+ghost use Prim.Native.Nat.{_<_, _≤_};
 ghost use lib.Dec.{leb};
 ghost use lib.ListN.{length};
 ghost use Rattle.answers.specs.Answers.{DONE};
 ghost use Rattle.text.specs.Limits.{levels, textMost};
 ghost use Rattle.table.specs.View.{view, Table, IsCell};
-ghost use Rattle.writing.specs.Steps.{started, comma, shutAt, passAt, openAt, keptAt, opensAt, MayTurn, Turn};
+ghost use Rattle.writing.specs.Steps.{started, comma, shutAt, passAt, opensAt, Opened, MayTurn, Turns};
 ghost use Rattle.writing.specs.Measures.{Stands, measured, Measures};
 use crate::atoms;
 use answers::Answer;
@@ -109,7 +109,7 @@ pub fn open(s: Shape, t: &[u32], after: &mut Kept, w: Walk) -> Walk
     requires { ⌜ Table s (now t) ⌝ }
     requires { ⌜ IsCell s (w .at) ⌝ }
     requires { ⌜ (w .depth < levels) × (w .size ≤ textMost) ⌝ }
-    ensures { λ r. ⌜ (r ≡ openAt (view s (now (t .entry)) .cells) w) × (now (after .exit) ≡ keptAt (view s (now (t .entry)) .cells) (now (after .entry)) w) ⌝ }
+    ensures { λ r. ⌜ Opened (view s (now (t .entry)) .cells) (now (after .entry)) w (now (after .exit)) r ⌝ }
 {
     let x = w.at;
     let depth = w.depth;
@@ -141,7 +141,7 @@ fn too_deep(s: Shape, t: &[u32], w: Walk) -> bool
 fn step(s: Shape, t: &[u32], after: &mut Kept, w: Walk) -> Walk
     requires { ⌜ Table s (now t) ⌝ }
     requires { ⌜ MayTurn s (view s (now t) .cells) w ⌝ }
-    ensures { λ r. ⌜ ((bs : List ℕ) × Turn (view s (now (t .entry)) .cells) (now (after .entry)) w (now (after .exit)) r bs) ⌝ }
+    ensures { λ r. ⌜ Turns (view s (now (t .entry)) .cells) (now (after .entry)) w (now (after .exit)) r ⌝ }
 {
     let x = w.at;
     if x == 0 {

@@ -27,7 +27,9 @@ module _ {p : Pool} {h : ℕ} {k : Hook} {cs : List ℕ} {q : Pool} {ms : List M
     reads-atom l e = subst (λ (m : Lst). Reading p h (linkOf k) m (u .opens) q) e (u .reading)
 
     pub atom-fresh : Fresh p (linkOf k)
-    atom-fresh = let t = value-first v (u .rest) (u .opens) ms (sym (u .left)) in fresh-atom p h (linkOf k) v (t .rest) (u .opens) q (reads-atom (t .rest) (t .is))
+    atom-fresh =
+        let t = value-first v (u .rest) (u .opens) ms (sym (u .left)) in
+        fresh-atom p h (linkOf k) v (t .rest) (u .opens) q (reads-atom (t .rest) (t .is))
 
     pub atom-begun : Underway (hangNew 0 v (linkOf k) h p) h (hookNext (p .free)) cs q ms
     atom-begun =
@@ -48,7 +50,9 @@ module _ {p : Pool} {h : ℕ} {k : Hook} {cs : List ℕ} {q : Pool} {ms : List M
     reads-list e l i = subst (λ (m : Lst). Reading p h (linkOf k) m (u .opens) q) i (u .reading)
 
     pub list-fresh : Fresh p (linkOf k)
-    list-fresh = let t = opened-first (u .rest) (u .opens) ms (sym (u .left)) in fresh-list p h (linkOf k) (t .elem) (t .rest) (u .opens) q (reads-list (t .elem) (t .rest) (t .is))
+    list-fresh =
+        let t = opened-first (u .rest) (u .opens) ms (sym (u .left)) in
+        fresh-list p h (linkOf k) (t .elem) (t .rest) (u .opens) q (reads-list (t .elem) (t .rest) (t .is))
 
     pub list-begun : Underway (hangNew 1 0 (linkOf k) h p) h (hookElem (p .free)) (p .free ∷ cs) q ms
     unfolding openCells
@@ -59,7 +63,9 @@ module _ {p : Pool} {h : ℕ} {k : Hook} {cs : List ℕ} {q : Pool} {ms : List M
         record {
           rest = t .elem;
           opens = o ∷ u .opens;
-          reading = subst (λ (j : Link). Reading (hangNew 1 0 (linkOf k) h p) h j (t .elem) (o ∷ u .opens) q) (sym (is-elem (hookElem (p .free)) some (λ z. omega arith)))
+          reading =
+              subst (λ (j : Link). Reading (hangNew 1 0 (linkOf k) h p) h j (t .elem) (o ∷ u .opens) q)
+              (sym (is-elem (hookElem (p .free)) some (λ z. omega arith)))
               (step-open p h (linkOf k) (t .elem) (t .rest) (u .opens) q (reads-list (t .elem) (t .rest) (t .is)));
           cells = ap (λ (l : List ℕ). p .free ∷ l) (u .cells);
           left = t .left (p .free);

@@ -50,7 +50,13 @@ first (b ∷ bs) t = go (ℕ-discrete b 40)
 
 module _ (s : List ℕ) (t : Taken s) (p : Place) (a : Accepting s p) where
   pub inside : 1 ≤ p .depth → Inside s p
-  inside deep = record { some = go (ℕ-discrete (length s) (p .at)); small = (sized s (t .bytes) (t .is)) .0; deep = deep; levelled = a .levelled; counted = a .counted }
+  inside deep = record {
+    some = go (ℕ-discrete (length s) (p .at));
+    small = (sized s (t .bytes) (t .is)) .0;
+    deep = deep;
+    levelled = a .levelled;
+    counted = a .counted;
+  }
     where
       go : Dec (length s ≡ p .at) → p .at < length s
       go (no n) = omega (arith, a .within)
@@ -58,7 +64,10 @@ module _ (s : List ℕ) (t : Taken s) (p : Place) (a : Accepting s p) where
           let n : p .depth ≡ 0 → ⊥ = λ z. omega arith in
           let st = at (place (phaseOf (p .first)) (p .depth) 0 0) (p .at) in
           let stands : stateOf p ≡ st = simp (ne-eqb (p .depth) 0 n) in
-          refuted s t 15 (sym (a .answered) ∙ ap (λ (u : State). answer (run u (drop (p .at) s))) stands ∙ ap (λ (l : List ℕ). answer (run st l)) (drop-of-length-le s (let l : length s ≤ p .at = omega arith in l)))
+          let out : length s ≤ p .at = omega arith in
+          refuted s t 15
+          (sym (a .answered) ∙ ap (λ (u : State). answer (run u (drop (p .at) s))) stands
+          ∙ ap (λ (l : List ℕ). answer (run st l)) (drop-of-length-le s out))
 
   pub goes-on : (q : Place) → Goes s p q → Accepting s q
   goes-on q w = record {

@@ -8,7 +8,6 @@ use Rattle.building.specs.Underway.{LeadsTo}
 use Rattle.building.specs.laws.StepLaws.{starts}
 use Rattle.building.specs.declared.hook.Hook.{Hook}
 use Rattle.lists.specs.Lst.{extent}
-use Rattle.pool.specs.Operations.{read}
 use Rattle.pool.specs.Pool.{Pool, frees, Sound}
 use Rattle.scan.specs.Places.{opened, prospectAt, emitted}
 use Rattle.scan.specs.Runs.{numeral}
@@ -19,7 +18,7 @@ use Rattle.text.specs.Limits.{levels}
 use Rattle.text.specs.Marks.{Mark, listIn}
 use Rattle.reading.specs.Accepting.{Taken, Amid, Goes}
 use Rattle.reading.specs.Adding.{stack, Adding, Added}
-use Rattle.reading.specs.Pass.{Pass}
+use Rattle.reading.specs.Pass.{goalOf, Pass}
 use Rattle.reading.specs.laws.AcceptingLaws.{first, goes-on, marks-on}
 
 -- with a null in the array for the outermost list
@@ -30,19 +29,18 @@ unfolding stack
 begins {s} {ts} h {text} taken t sound room xs long null =
     let f = first text taken in
     let marks = (prospectAt text opened) .marks in
-    let goal = read (view s ts) h (listIn text) in
     record {
       taken = taken;
       table = t;
       long = long;
       place = f .place;
-      leads = subst (λ (c : ℕ). LeadsTo (view s ts) h (hookNext 0) (c ∷ []) goal marks) (sym null)
+      leads = subst (λ (c : ℕ). LeadsTo (view s ts) h (hookNext 0) (c ∷ []) (goalOf s ts h text) marks) (sym null)
           (starts (view s ts) h (listIn text) marks sound room (f .left));
     }
 
 module _ {s : Shape} {ts : List ℕ} {h : ℕ} {text us : List ℕ} {k : Hook} {xs : List ℕ} {p : Place} (a : Pass s ts h text us k xs p) where
   abbrev goal : Pool
-  goal = read (view s ts) h (listIn text)
+  goal = goalOf s ts h text
 
   pub over : p .depth ≡ 0 → Shows s us goal
   unfolding stack

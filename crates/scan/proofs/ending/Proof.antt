@@ -30,7 +30,8 @@ returns c =
     let turn = c .before .before .before .before in
     let start = turn .before .before in
     c .refused .ensures
-    ∙ blank-not (start .args .text .now) _ _ (turn .loop .i) (turn .loop .inv .1) (omega (arith, start .pre .0 .whole)) (c .before .before .before .loop-test .taken)
+    ∙ blank-not (start .args .text .now) _ _ (turn .loop .i) (turn .loop .inv .1) (omega (arith, start .pre .0 .whole))
+    (c .before .before .before .loop-test .taken)
     (c .before .if1 .taken)
 
 add-i : tie.Need-add-i Inv-loop μ-loop

@@ -33,13 +33,15 @@ refused-requires : tie.Need-refused-requires Inv-loop μ-loop
 refused-requires c κs = search needs
 
 returns : tie.Need-returns Inv-loop μ-loop
-returns c = c .refused .ensures ∙ starts-not (c .before .before .before .before .args .text .now) (c .before .before .before .before .pre .some) (c .before .if1 .taken)
+returns c =
+    c .refused .ensures ∙ starts-not (c .before .before .before .before .args .text .now) (c .before .before .before .before .pre .some) (c .before .if1 .taken)
 
 opened-requires : tie.Need-opened-requires Inv-loop μ-loop
 opened-requires c κs = search needs
 
 loop-holds : tie.Need-loop-holds Inv-loop μ-loop
-loop-holds c = rw (c .opened .ensures) (starts (c .before .before .before .before .args .text .now) (c .before .before .before .before .pre .some) (c .before .if1 .left))
+loop-holds c =
+    rw (c .opened .ensures) (starts (c .before .before .before .before .args .text .now) (c .before .before .before .before .pre .some) (c .before .if1 .left))
 
 take-requires : tie.Need-take-requires Inv-loop μ-loop
 take-requires c κs =

@@ -20,7 +20,8 @@ no-room cs x u e = ap (judged u 0) (opens-body (listAt cs x)) ∙ rw (eq-eqb u 0
 pub refuses : (cs : List Cell) (x u n : ℕ) (m : Measured) → judged u 0 (textAt cs x) ≡ n → n ≢ DONE → m ≡ measured n 0 → Measures cs x u m
 refuses cs x u n m e z q = subst (Measures cs x u) (sym q) (record { answer = sym e; size = λ y. absurd (z y) })
 
-pub sizes : (cs : List Cell) (x u : ℕ) (after : List ℕ) (w : Walk) (m : Measured) → Walking cs (textAt cs x) u after w → w .depth ≡ 0 → m ≡ measured DONE (w .size) → Measures cs x u m
+pub sizes : (cs : List Cell) (x u : ℕ) (after : List ℕ) (w : Walk) (m : Measured) → Walking cs (textAt cs x) u after w → w .depth ≡ 0
+    → m ≡ measured DONE (w .size) → Measures cs x u m
 sizes cs x u after w m g e q =
     let f = ended cs (textAt cs x) u after w g e in
     subst (Measures cs x u) (sym q) (record { answer = sym (f .1); size = λ z. f .0 })

@@ -69,7 +69,8 @@ by-bit (suc f) v j u lo hi =
     (λ e. low-bit v j (ltb-true v 8 e) lo)
     (λ e. length-append (octalF f (v / 8)) ((48 + v % 8) ∷ []) ∙ more j lo hi (ltb-false v 8 e) (λ i. by-bit f (v / 8) i u))
   where
-    more : (j : ℕ) → 2 ^ j ≤ v → v < 2 ^ suc j → 8 ≤ v → ((i : ℕ) → 2 ^ i ≤ v / 8 → v / 8 < 2 ^ suc i → length (octalF f (v / 8)) ≡ i / 3 + 1) → length (octalF f (v / 8)) + 1 ≡ j / 3 + 1
+    more : (j : ℕ) → 2 ^ j ≤ v → v < 2 ^ suc j → 8 ≤ v → ((i : ℕ) → 2 ^ i ≤ v / 8 → v / 8 < 2 ^ suc i → length (octalF f (v / 8)) ≡ i / 3 + 1)
+        → length (octalF f (v / 8)) + 1 ≡ j / 3 + 1
     more zero lo hi l ih = absurd (omega arith)
     more (suc zero) lo hi l ih = absurd (omega arith)
     more (suc (suc zero)) lo hi l ih = absurd (omega arith)
@@ -84,11 +85,13 @@ pub digits-by-bit : (v : ℕ) → v < atomsEnd → ((34 - leadingZeros 32 (v / 2
 unfolding numeral
 digits-by-bit v l = go (leading-top 32 (v / 2 * 2 + 1) (omega arith) (omega arith))
   where
-    go : (j : ℕ) × (leadingZeros 32 (v / 2 * 2 + 1) + suc j ≡ 32) × (2 ^ j ≤ v / 2 * 2 + 1) × (v / 2 * 2 + 1 < 2 ^ suc j) → ((34 - leadingZeros 32 (v / 2 * 2 + 1)) / 3 ≡ length (numeral v)) × (length (numeral v) ≤ digitsMost)
+    go : (j : ℕ) × (leadingZeros 32 (v / 2 * 2 + 1) + suc j ≡ 32) × (2 ^ j ≤ v / 2 * 2 + 1) × (v / 2 * 2 + 1 < 2 ^ suc j)
+        → ((34 - leadingZeros 32 (v / 2 * 2 + 1)) / 3 ≡ length (numeral v)) × (length (numeral v) ≤ digitsMost)
     go (zero, e, lo, hi) = let q = ap length (one-digit v (omega arith)) in (omega arith, omega arith)
     go (suc i, e, lo, hi) = let q = by-bit 10 v (suc i) (under v l) (omega (arith, pow-add 2 1 i)) (omega arith) in (omega arith, omega arith)
 
-pub worked-out : (v n w : ℕ) (store : List ℕ) → v < atomsEnd → n ≡ length (numeral v) → 1 ≤ n → n ≤ digitsMost → w ≡ (v * 2 ^ (3 * (digitsMost - n))) % 2 ^ 64 → lastDigits digitsMost w ≡ store → take n store ≡ numeral v
+pub worked-out : (v n w : ℕ) (store : List ℕ) → v < atomsEnd → n ≡ length (numeral v) → 1 ≤ n → n ≤ digitsMost → w ≡ (v * 2 ^ (3 * (digitsMost - n))) % 2 ^ 64
+    → lastDigits digitsMost w ≡ store → take n store ≡ numeral v
 unfolding numeral
 worked-out v n w store l e o h s d =
     let m : ℕ = digitsMost - n in
@@ -106,7 +109,8 @@ last-step (suc i) w store ds p h e =
     let k : suc i - 1 ≡ i = omega arith in
     let b : ℕ = 48 + w % 8 in
     let t : drop i (set store i b) ≡ b ∷ drop (suc i) store
-    = drop-cons (set store i b) i 0 (omega (arith, length-set store i b)) ∙ cc (getD-set-same store i b 0 (omega arith), drop-set-lt (suc i) store i b (omega arith)) in
+    = drop-cons (set store i b) i 0 (omega (arith, length-set store i b))
+    ∙ cc (getD-set-same store i b 0 (omega arith), drop-set-lt (suc i) store i b (omega arith)) in
     rw k (e ∙ append-assoc (lastDigits i (w / 8)) (b ∷ []) (drop (suc i) store) ∙ ap (λ (u : List ℕ). lastDigits i (w / 8) ++ u) (sym t))
 
 pub none-left : (i w : ℕ) (store : List ℕ) → i ≡ 0 → lastDigits i w ++ drop i store ≡ store

@@ -28,7 +28,8 @@ use Rattle.writing.specs.laws.WalkingLaws.{begins, turned, inside, goes-
 pub some-text : (cs : List Cell) (x end : ℕ) → Fitting cs x end → 1 ≤ end
 some-text cs x end f = omega (arith, f .size, ap length (opens-body (listAt cs x)))
 
-pub put-begins : (cs : List Cell) (x end : ℕ) (xs : List ℕ) (w : Walk) → Stands cs x → Fitting cs x end → end ≤ length xs → w ≡ started x → Putting cs (textAt cs x) (set xs 0 40) end (set xs 0 40) (replicate levels 0) w
+pub put-begins : (cs : List Cell) (x end : ℕ) (xs : List ℕ) (w : Walk) → Stands cs x → Fitting cs x end → end ≤ length xs → w ≡ started x
+    → Putting cs (textAt cs x) (set xs 0 40) end (set xs 0 40) (replicate levels 0) w
 put-begins cs x end xs w h f l e =
     let one : 1 ≤ end = some-text cs x end f in
     let first : take 1 (set xs 0 40) ≡ take 1 (textAt cs x) = put-one xs 0 end 40 one l .text ∙ sym (ap (take 1) (opens-body (listAt cs x))) in
@@ -63,10 +64,12 @@ module _ (cs : List Cell) (t old : List ℕ) (end : ℕ) (out after : List ℕ) 
       let d = turned cs t end after w (g .walks) some next r bs (shallow f) u in
       let fits : r .size ≤ end = omega (arith, inside cs t end after w (g .walks) some next r bs d) in
       let taken : take (w .size + length bs) t ≡ take (w .size) t ++ bs
-      = take-add (w .size) (length bs) t ∙ ap (λ (b : List ℕ). take (w .size) t ++ b) (ap (take (length bs)) (d .text) ∙ take-append-seam bs (rest (d .opened))) in (
+      = take-add (w .size) (length bs) t
+      ∙ ap (λ (b : List ℕ). take (w .size) t ++ b) (ap (take (length bs)) (d .text) ∙ take-append-seam bs (rest (d .opened))) in (
         record {
           walks = goes-on cs t end after w (g .walks) some next r bs d fits;
-          front = ap (λ (k : ℕ). take k new) (d .size) ∙ p .text ∙ ap (λ (b : List ℕ). b ++ bs) (g .front) ∙ sym taken ∙ ap (λ (k : ℕ). take k t) (sym (d .size));
+          front = ap (λ (k : ℕ). take k new) (d .size) ∙ p .text ∙ ap (λ (b : List ℕ). b ++ bs) (g .front) ∙ sym taken
+              ∙ ap (λ (k : ℕ). take k t) (sym (d .size));
           behind = p .behind ∙ g .behind;
           room = p .room ∙ g .room;
         },
@@ -74,10 +77,12 @@ module _ (cs : List Cell) (t old : List ℕ) (end : ℕ) (out after : List ℕ) 
         omega (arith, d .size, d .more),
       )
 
-pub put-ends : (cs : List Cell) (x end : ℕ) (xs out after : List ℕ) (w : Walk) → Putting cs (textAt cs x) (set xs 0 40) end out after w → Fitting cs x end → w .depth ≡ 0 → out ≡ over (textAt cs x) xs
+pub put-ends : (cs : List Cell) (x end : ℕ) (xs out after : List ℕ) (w : Walk) → Putting cs (textAt cs x) (set xs 0 40) end out after w → Fitting cs x end
+    → w .depth ≡ 0 → out ≡ over (textAt cs x) xs
 put-ends cs x end xs out after w g f z =
     let t = textAt cs x in
     let q : w .size ≡ length t = ended cs t end after w (g .walks) z .0 in
     sym (take-append-drop end out) ∙ ap (λ (b : List ℕ). take end out ++ b) (g .behind ∙ drop-set-lt end xs 0 40 (some-text cs x end f))
-    ∙ ap (λ (k : ℕ). take k out ++ drop end xs) (f .size ∙ sym q) ∙ ap (λ (b : List ℕ). b ++ drop end xs) (g .front ∙ ap (λ (k : ℕ). take k t) q ∙ take-length t)
+    ∙ ap (λ (k : ℕ). take k out ++ drop end xs) (f .size ∙ sym q) ∙ ap (λ (b : List ℕ). b ++ drop end xs)
+    (g .front ∙ ap (λ (k : ℕ). take k t) q ∙ take-length t)
     ∙ ap (λ (k : ℕ). t ++ drop k xs) (f .size)

@@ -20,7 +20,8 @@ pub one-comma : (x : ℕ) → x ≢ 0 → 1 ≡ length (comma x)
 one-comma zero n = absurd (n refl)
 one-comma (suc i) n = refl
 
-pub passed : (cs : List Cell) (w : Walk) (x v n k : ℕ) → x ≡ nextOf cs (w .at) → v ≡ elemOf cs (w .at) → n ≡ length (numeral v) → k ≡ length (comma x) → walk x (w .depth) (w .size + n + k) ≡ passAt cs w
+pub passed : (cs : List Cell) (w : Walk) (x v n k : ℕ) → x ≡ nextOf cs (w .at) → v ≡ elemOf cs (w .at) → n ≡ length (numeral v) → k ≡ length (comma x)
+    → walk x (w .depth) (w .size + n + k) ≡ passAt cs w
 passed cs w x v n k ex ev en ek = rw (ek, en, ev, ex)
 
 -- whether the cell x opens a level too many
@@ -51,12 +52,14 @@ roomy cs d x e n k =
     (λ q. no-yes (sym (rw (q, ne-eqb x 0 n, ne-eqb (kindOf cs x) 0 k) at e)))
     (λ q. leb-false levels d q)
 
-pub opened-at : (cs : List Cell) (after : List ℕ) (w : Walk) (x y : ℕ) → y ≡ nextOf cs (w .at) → x ≡ elemOf cs (w .at) → (walk x (w .depth + 1) (w .size + 1) ≡ openAt cs w) × (set after (w .depth) y ≡ keptAt cs after w)
+pub opened-at : (cs : List Cell) (after : List ℕ) (w : Walk) (x y : ℕ) → y ≡ nextOf cs (w .at) → x ≡ elemOf cs (w .at)
+    → (walk x (w .depth + 1) (w .size + 1) ≡ openAt cs w) × (set after (w .depth) y ≡ keptAt cs after w)
 opened-at cs after w x y ey ex = (ap (λ (z : ℕ). walk z (w .depth + 1) (w .size + 1)) ex, ap (set after (w .depth)) ey)
 
 -- where "," of a turn goes
 pub shut-size : (after : List ℕ) (w r : Walk) → r ≡ shutAt after w → (length (comma (r .at)) + (w .size + 1) ≡ r .size) × (r .size ≡ shutAt after w .size)
 shut-size after w r e = rw e (omega arith, refl)
 
-pub pass-size : (cs : List Cell) (w r : Walk) → r ≡ passAt cs w → (length (comma (r .at)) + (w .size + length (numeral (elemOf cs (w .at)))) ≡ r .size) × (r .size ≡ passAt cs w .size)
+pub pass-size : (cs : List Cell) (w r : Walk) → r ≡ passAt cs w
+    → (length (comma (r .at)) + (w .size + length (numeral (elemOf cs (w .at)))) ≡ r .size) × (r .size ≡ passAt cs w .size)
 pass-size cs w r e = rw e (omega arith, refl)

@@ -37,7 +37,8 @@ abbrev Goes : List Cell → List ℕ → ℕ → ℕ → List Lst → List ℕ �
 Goes cs after x d opened bs = (next : List Lst) × (length next ≡ d) × Here cs after x next × (rest opened ≡ bs ++ rest next)
 
 module _ (cs : List Cell) (after : List ℕ) where
-  pub goes-shut : (opened : List Lst) (d x : ℕ) → length opened ≡ d → 1 ≤ d → Here cs after 0 opened → getD after 0 0 ≡ 0 → x ≡ getD after (d - 1) 0 → Goes cs after x (d - 1) opened (41 ∷ comma x)
+  pub goes-shut : (opened : List Lst) (d x : ℕ) → length opened ≡ d → 1 ≤ d → Here cs after 0 opened → getD after 0 0 ≡ 0 → x ≡ getD after (d - 1) 0
+      → Goes cs after x (d - 1) opened (41 ∷ comma x)
   unfolding ListAt
   goes-shut [] d x e l h f q = absurd (omega arith)
   goes-shut (atom v k ∷ ls) d x e l h f q = absurd (omega (arith, live-cell cs 0 (h .0 .0)))
@@ -52,7 +53,8 @@ module _ (cs : List Cell) (after : List ℕ) where
       let there : ListAt cs x a = subst (λ (n : ℕ). ListAt cs n a) (sym z) (h .1 .0) in
       (a ∷ ls, sym k, (there, h .1 .1), ap (λ (t : List ℕ). 41 ∷ t) (going cs x a ls there))
 
-  pub goes-pass : (opened : List Lst) (d x : ℕ) → length opened ≡ d → 1 ≤ d → Here cs after x opened → x ≢ 0 → kindOf cs x ≡ 0 → Goes cs after (nextOf cs x) d opened (numeral (elemOf cs x) ++ comma (nextOf cs x))
+  pub goes-pass : (opened : List Lst) (d x : ℕ) → length opened ≡ d → 1 ≤ d → Here cs after x opened → x ≢ 0 → kindOf cs x ≡ 0
+      → Goes cs after (nextOf cs x) d opened (numeral (elemOf cs x) ++ comma (nextOf cs x))
   unfolding ListAt numeral
   goes-pass [] d x e l h n t = absurd (omega arith)
   goes-pass (nil ∷ ls) d x e l h n t = absurd (n (h .0))
@@ -74,7 +76,8 @@ module _ (cs : List Cell) (after : List ℕ) where
       let q = getD-set-other after d (suc (length ls)) y 0 (λ e. omega arith) in
       (subst (λ (n : ℕ). ListAt cs n a) (sym q) (h .0), above-kept ls d y (omega arith) (h .1))
 
-  pub goes-open : (opened : List Lst) (d x : ℕ) → length opened ≡ d → 1 ≤ d → d < length after → Here cs after x opened → x ≢ 0 → kindOf cs x ≢ 0 → Goes cs (set after d (nextOf cs x)) (elemOf cs x) (d + 1) opened (40 ∷ [])
+  pub goes-open : (opened : List Lst) (d x : ℕ) → length opened ≡ d → 1 ≤ d → d < length after → Here cs after x opened → x ≢ 0 → kindOf cs x ≢ 0
+      → Goes cs (set after d (nextOf cs x)) (elemOf cs x) (d + 1) opened (40 ∷ [])
   unfolding ListAt
   goes-open [] d x e l w h n t = absurd (omega arith)
   goes-open (nil ∷ ls) d x e l w h n t = absurd (n (h .0))

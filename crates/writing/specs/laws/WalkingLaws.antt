@@ -89,13 +89,17 @@ module _ (cs : List Cell) (t : List ℕ) (u : ℕ) (after : List ℕ) (w : Walk)
         judges = judges-open (w .depth) (rest next) r;
       }
 
-  pub turned : (next : List ℕ) (r : Walk) (bs : List ℕ) → (w .at ≢ 0 → kindOf cs (w .at) ≢ 0 → w .depth < levels) → Turn cs after w next r bs → Turned cs t next w r bs
+  pub turned : (next : List ℕ) (r : Walk) (bs : List ℕ) → (w .at ≢ 0 → kindOf cs (w .at) ≢ 0 → w .depth < levels) → Turn cs after w next r bs
+      → Turned cs t next w r bs
   turned next r bs room (shuts z e n) =
-      subst (λ (a : List ℕ). Turned cs t a w r (41 ∷ comma (r .at))) (sym n) (subst (λ (q : Walk). Turned cs t after w q (41 ∷ comma (q .at))) (sym e) (shut-turned z))
+      subst (λ (a : List ℕ). Turned cs t a w r (41 ∷ comma (r .at))) (sym n)
+      (subst (λ (q : Walk). Turned cs t after w q (41 ∷ comma (q .at))) (sym e) (shut-turned z))
   turned next r bs room (passes z k e n) =
-      subst (λ (a : List ℕ). Turned cs t a w r (numeral (elemOf cs (w .at)) ++ comma (r .at))) (sym n) (subst (λ (q : Walk). Turned cs t after w q (numeral (elemOf cs (w .at)) ++ comma (q .at))) (sym e) (pass-turned z k))
+      subst (λ (a : List ℕ). Turned cs t a w r (numeral (elemOf cs (w .at)) ++ comma (r .at))) (sym n)
+      (subst (λ (q : Walk). Turned cs t after w q (numeral (elemOf cs (w .at)) ++ comma (q .at))) (sym e) (pass-turned z k))
   turned next r bs room (opens z k e n) =
-      subst (λ (a : List ℕ). Turned cs t a w r (40 ∷ [])) (sym n) (subst (λ (q : Walk). Turned cs t (keptAt cs after w) w q (40 ∷ [])) (sym e) (open-turned z k (room z k)))
+      subst (λ (a : List ℕ). Turned cs t a w r (40 ∷ [])) (sym n)
+      (subst (λ (q : Walk). Turned cs t (keptAt cs after w) w q (40 ∷ [])) (sym e) (open-turned z k (room z k)))
 
   module _ (next : List ℕ) (r : Walk) (bs : List ℕ) (d : Turned cs t next w r bs) where
     came : judged u 0 t ≡ judged (u - w .size) (w .depth) (bs ++ rest (d .opened))
@@ -116,7 +120,8 @@ module _ (cs : List Cell) (t : List ℕ) (u : ℕ) (after : List ℕ) (w : Walk)
           is = behind;
           within = inside;
           short = fits;
-          judges = came ∙ d .judges (u - w .size) ∙ rw (le-leb n (u - w .size) (omega (arith, d .size))) (ap (λ (j : ℕ). judged j (r .depth) (rest (d .opened))) k);
+          judges = came ∙ d .judges (u - w .size)
+              ∙ rw (le-leb n (u - w .size) (omega (arith, d .size))) (ap (λ (j : ℕ). judged j (r .depth) (rest (d .opened))) k);
         }
 
     pub overflows : u < r .size → judged u 0 t ≡ OUTPUT
@@ -136,9 +141,11 @@ module _ (cs : List Cell) (t : List ℕ) (u : ℕ) (after : List ℕ) (w : Walk)
   may-turn s m h room = record { some = some; low = g .stands .low; short = omega (arith, g .short); cell = at-cell s m; room = room }
 
 -- no level is open any more
-pub ended : (cs : List Cell) (t : List ℕ) (u : ℕ) (after : List ℕ) (w : Walk) → Walking cs t u after w → w .depth ≡ 0 → (w .size ≡ length t) × (judged u 0 t ≡ DONE)
+pub ended : (cs : List Cell) (t : List ℕ) (u : ℕ) (after : List ℕ) (w : Walk) → Walking cs t u after w → w .depth ≡ 0
+    → (w .size ≡ length t) × (judged u 0 t ≡ DONE)
 ended cs t u after w g e = none (g .opened) (g .stands .deep) (g .is) (g .judges)
   where
-    none : (opened : List Lst) → length opened ≡ w .depth → drop (w .size) t ≡ rest opened → judged u 0 t ≡ judged (u - w .size) (w .depth) (rest opened) → (w .size ≡ length t) × (judged u 0 t ≡ DONE)
+    none : (opened : List Lst) → length opened ≡ w .depth → drop (w .size) t ≡ rest opened → judged u 0 t ≡ judged (u - w .size) (w .depth) (rest opened)
+        → (w .size ≡ length t) × (judged u 0 t ≡ DONE)
     none [] d i j = (omega (arith, ap length i, length-drop (w .size) t, g .within), j)
     none (l ∷ ls) d i j = absurd (omega arith)

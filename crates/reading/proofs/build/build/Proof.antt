@@ -21,10 +21,14 @@ abbrev μ-loop : tie.MeasureT-loop
 μ-loop s t₀ h text lists₀ k₀ p₀ t lists k p = length text - p .at
 
 -- before the last ")"
-amidst : (c : tie.Then1 Inv-loop μ-loop) → Amid (c .before .before .before .before .before .before .args .text .now) (c .before .before .loop .p)
+amidst : (c : tie.Then1 Inv-loop μ-loop) →
+    let turn = c .before .before in
+    Amid (turn .before .before .before .before .args .text .now) (turn .loop .p)
 amidst c = amid (c .before .before .loop .inv) (c .if1 .taken)
 
-value : (c : tie.After-number-at Inv-loop μ-loop) → c .number-at .result .value ≡ numeral 0 (drop (c .before .before .before .loop .p .at) (c .before .before .before .before .before .before .before .args .text .now))
+value : (c : tie.After-number-at Inv-loop μ-loop) →
+    let turn = c .before .before .before in
+    c .number-at .result .value ≡ numeral 0 (drop (turn .loop .p .at) (turn .before .before .before .before .args .text .now))
 value c = ap (λ (n : Number). n .value) (c .number-at .ensures)
 
 opened-requires : tie.Need-opened-requires Inv-loop μ-loop
@@ -33,7 +37,9 @@ opened-requires c κs = search needs
 loop-holds : tie.Need-loop-holds Inv-loop μ-loop
 loop-holds c =
     let start = c .before .before .before in
-    rw (c .opened .ensures) (begins (start .args .h) (start .pre .1 .1 .1 .0) (start .pre .0) (start .pre .1 .1 .0) (start .pre .1 .1 .1 .1) _ (length-replicate {A = ℕ} levels 0) refl)
+    let room = start .pre .1 .1 .1 .1 in
+    rw (c .opened .ensures)
+    (begins (start .args .h) (start .pre .1 .1 .1 .0) (start .pre .0) (start .pre .1 .1 .0) room _ (length-replicate {A = ℕ} levels 0) refl)
 
 number-at-requires : tie.Need-number-at-requires Inv-loop μ-loop
 number-at-requires c κs = numbered (amidst c)
@@ -43,20 +49,28 @@ next-requires c κs = (amidst (c .before), ap (λ (n : Number). n .end) (c .numb
 
 add-requires : tie.Need-add-requires Inv-loop μ-loop
 add-requires c κs =
-    let turn = c .before .before .before .before .before .before in
-    adding (turn .loop .inv) (c .before .before .before .before .if1 .taken) (c .before .before .next .ensures) (turn .before .before .before .before .pre .1 .0) (value (c .before .before .before))
+    let after-next = c .before .before in
+    let deep = after-next .before .before in
+    let turn = deep .before .before in
+    let held = turn .before .before .before .before .pre .1 .0 in
+    adding (turn .loop .inv) (deep .if1 .taken) (after-next .next .ensures) held (value (after-next .before))
 
 loop-less : tie.Need-loop-less Inv-loop μ-loop
-loop-less c = omega (arith, c .before .before .before .before .before .next .ensures .on, here (amidst (c .before .before .before .before .before .before .before)) .some)
+loop-less c =
+    let after-next = c .before .before .before .before .before in
+    omega (arith, after-next .next .ensures .on, here (amidst (after-next .before .before)) .some)
 
 loop-again : tie.Need-loop-again Inv-loop μ-loop
 loop-again c =
-    let turn = c .before .before .before .before .before .before .before .before .before in
+    let after-next = c .before .before .before .before .before in
+    let deep = after-next .before .before in
     let step = c .before .before .add in
-    on (turn .loop .inv) (c .before .before .before .before .before .before .before .if1 .taken) (c .before .before .before .before .before .next .ensures) (value (c .before .before .before .before .before .before)) _ (step .result) _ (step .ensures)
+    on (deep .before .before .loop .inv) (deep .if1 .taken) (after-next .next .ensures) (value (after-next .before)) _ (step .result) _ (step .ensures)
 
 same-length : tie.Need-same-length Inv-loop μ-loop
-same-length c = c .before .before .loop .inv .table .sized ∙ sym (c .before .before .before .before .before .before .pre .0 .sized)
+same-length c =
+    let turn = c .before .before in
+    turn .loop .inv .table .sized ∙ sym (turn .before .before .before .before .pre .0 .sized)
 
 returns : tie.Need-returns Inv-loop μ-loop
 returns c = over (c .before .before .loop .inv) (omega (arith, c .if1 .left))

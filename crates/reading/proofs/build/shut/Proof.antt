@@ -56,8 +56,11 @@ loop-again c =
     let turn = on .before in
     let a = turn .before .before .args in
     let inv = turn .loop .inv in
-    let ended = shut-again (a .lists .now) (a .from) (turn .loop .d) (inv .2) (on .loop-test .taken) (inv .1) (kept .wide .ensures) (after-shut .shut-list .ensures) in
-    (omega (arith, on .loop-test .taken), omega (arith, inv .1), ended)
+    let ended = after-shut .shut-list .ensures in (
+      omega (arith, on .loop-test .taken),
+      omega (arith, inv .1),
+      shut-again (a .lists .now) (a .from) (turn .loop .d) (inv .2) (on .loop-test .taken) (inv .1) (kept .wide .ensures) ended,
+    )
 
 same-length : tie.Need-same-length Inv-loop μ-loop
 same-length c =

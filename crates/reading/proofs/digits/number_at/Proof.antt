@@ -21,7 +21,9 @@ some : (c : tie.At-loop Inv-loop μ-loop) → c .loop .i < length (c .before .be
 some c = omega (arith, c .before .before .pre .ends)
 
 -- it is a digit
-on : (c : tie.Then1 Inv-loop μ-loop) → On (c .before .before .before .before .before .args .text .now) (c .before .before .before .loop .i) (c .before .before .before .loop .value)
+on : (c : tie.Then1 Inv-loop μ-loop) →
+    let turn = c .before .before .before in
+    On (turn .before .before .args .text .now) (turn .loop .i) (turn .loop .value)
 on c =
     let turn = c .before .before .before in
     digit-on (turn .before .before .args .text .now) (turn .loop .i) (turn .loop .value) (some turn) (sym (c .before .is-octal .ensures) ∙ c .if1 .taken)
@@ -66,7 +68,8 @@ loop-again c =
 returns : tie.Need-returns Inv-loop μ-loop
 returns c =
     let turn = c .before .before .before in
-    let off = digit-off (turn .before .before .args .text .now) (turn .loop .i) (turn .loop .value) (some turn) (sym (c .before .is-octal .ensures) ∙ c .if1 .left) in
+    let none = sym (c .before .is-octal .ensures) ∙ c .if1 .left in
+    let off = digit-off (turn .before .before .args .text .now) (turn .loop .i) (turn .loop .value) (some turn) none in
     let value = sym (off .1) ∙ turn .loop .inv .1 in
     let end = sym (off .0) ∙ turn .loop .inv .0 in
     cc

@@ -28,7 +28,10 @@ add-t10 : tie.Need-add-t10 Inv-loop μ-loop
 add-t10 c = omega (arith, more (c .before .before), c .before .before .before .before .pre .1 .0 .small)
 
 returns : tie.Need-returns Inv-loop μ-loop
-returns c = closed-comma (c .before .before .before .loop .inv) (c .before .before .loop-test .taken) (more (c .before .before)) (c .before .before .before .before .pre .1 .0 .some) (c .if1 .taken)
+returns c =
+    let on = c .before .before in
+    let turn = on .before in
+    closed-comma (turn .loop .inv) (on .loop-test .taken) (more on) (turn .before .pre .1 .0 .some) (c .if1 .taken)
 
 add-i : tie.Need-add-i Inv-loop μ-loop
 add-i c = omega (arith, more (c .before .before), c .before .before .before .before .pre .1 .0 .small)

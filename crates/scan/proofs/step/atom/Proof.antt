@@ -35,7 +35,8 @@ returns-2 c =
     let start = more .before .before .before in
     let at = start .args .p .at in
     let stop = run-stop (start .args .text .now) (at + 1) (more .if1 .left) (ap isDigit (c .before .if2 .taken)) in
-    taken-comma (start .pre .0) (record { digit = start .pre .1; run = omega (arith, stop) }) (one-digit at (getD (start .args .text .now) at 0)) (more .if1 .left)
+    taken-comma (start .pre .0) (record { digit = start .pre .1; run = omega (arith, stop) }) (one-digit at (getD (start .args .text .now) at 0))
+    (more .if1 .left)
     (c .before .if2 .taken)
 
 digits-requires : tie.Need-digits-requires

@@ -66,7 +66,8 @@ returns-4 : tie.Need-returns-4
 returns-4 c =
     let fits = c .before .before .before .before .before in
     let after-run = fits .before .before .before in
-    taken-other (after-run .before .before .pre .0) (atom after-run) (short fits) (c .before .before .before .before .if2 .left) (c .before .before .if3 .left) (c .if4 .taken)
+    taken-other (after-run .before .before .pre .0) (atom after-run) (short fits) (c .before .before .before .before .if2 .left) (c .before .before .if3 .left)
+    (c .if4 .taken)
 
 sub-closed : tie.Need-sub-closed
 sub-closed c = search needs
@@ -97,7 +98,8 @@ returns-5 c =
     let more = on-shut .before .before .before .before in
     let fits = more .before in
     let after-run = fits .before .before .before in
-    taken-closed (after-run .before .before .pre .0) (atom after-run) (short fits) (more .if2 .left) (on-shut .if4 .left) (c .closed .result) (c .closed .ensures)
+    taken-closed (after-run .before .before .pre .0) (atom after-run) (short fits) (more .if2 .left) (on-shut .if4 .left) (c .closed .result)
+    (c .closed .ensures)
 
 pub digits-spec : {M : Type 1} → statement M
 digits-spec =

@@ -36,7 +36,8 @@ returns-3 : tie.Need-returns-3
 returns-3 c =
     let no-digit = c .before .before .before .before in
     let after-test = no-digit .before in
-    taken-none (after-test .before .before .before .pre) (sym (after-test .is-octal .ensures) ∙ no-digit .if1 .left) (c .before .before .if2 .left) (c .if3 .taken)
+    taken-none (after-test .before .before .before .pre) (sym (after-test .is-octal .ensures) ∙ no-digit .if1 .left) (c .before .before .if2 .left)
+    (c .if3 .taken)
 
 sub-closed : tie.Need-sub-closed
 sub-closed c = search needs
