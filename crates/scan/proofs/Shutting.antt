@@ -1,5 +1,5 @@
 -- What follows a ")" until "," or the last ")": one turn of the automaton each, and what ends the run.
-use Prim.Native.Nat.{ℕ, suc, _+_, _-_, _<_, _≤_}
+use Prim.Native.Nat.{ℕ, _+_, _-_, _<_, _≤_}
 use mathlib.Core.Path.{_≡_, refl, ap, _∙_}
 use mathlib.Core.List.{List, [], _∷_}
 use mathlib.Core.Bool.{false}
@@ -12,10 +12,11 @@ use Rattle.text.specs.Text.{Scan, place, afterElement, State, at}
 use Rattle.text.specs.Marks.{Mark, shut}
 use Rattle.text.specs.laws.TextLaws.{class}
 use Rattle.scan.specs.Places.{placed, closedAt, Prospect, prospect, behind, shuts, Closing, Closed}
+use Rattle.scan.specs.laws.Ends.{beginnings-shuts, shuts-append}
 use Rattle.scan.specs.declared.step.Step.the-variants as step
 use Rattle.scan.specs.declared.step.Step.the-variants.{Fault}
 use Rattle.scan.proofs.Outlooks.{behind-behind}
-use Rattle.scan.proofs.Turns.{beginnings-shuts, shuts-more, fault-told, comma-on, shut-same}
+use Rattle.scan.proofs.Turns.{fault-told, comma-on, shut-same}
 use Rattle.scan.proofs.Misplaced.{behind-element}
 
 -- behind a ")" that left depth levels open, before at: d are left before i
@@ -81,7 +82,7 @@ module _ {s : List ℕ} {depth e at d i : ℕ} (k : Shutting s depth e at d i) w
       pub closed-again : getD s i 0 ≡ 41 → Shutting s depth e at (d - 1) (i + 1)
       closed-again q =
           let next = prospect (closedAt (d - 1) (i + 1)) (drop (i + 1) s) in
-          let more : suc (depth - d) ≡ depth - (d - 1) = omega (arith, k .high) in
+          let more : depth - d + 1 ≡ depth - (d - 1) = omega (arith, k .high) in
           record {
             from = omega (arith, k .from);
             within = omega arith;
@@ -90,7 +91,7 @@ module _ {s : List ℕ} {depth e at d i : ℕ} (k : Shutting s depth e at d i) w
             counted = omega (arith, k .counted);
             same = stands ∙ ap (behind (shuts (depth - d))) (shut-same s at scanBehind i (k .from) some deep (k .levelled) refl q)
                 ∙ behind-behind (shuts (depth - d)) (shut ∷ []) next
-                ∙ ap (λ (ms : List Mark). behind ms next) (shuts-more (depth - d) ∙ ap shuts more);
+                ∙ ap (λ (ms : List Mark). behind ms next) (shuts-append (depth - d) 1 ∙ ap shuts more);
           }
 
   pub closed-over : 1 ≤ at → d ≡ 0 → Closed s depth e at (step.Mark (placed i 0 e false))

@@ -1,5 +1,5 @@
 -- One turn of the automaton against a step of the code, from a place with a character to look at: ",", ")" and "(".
-use Prim.Native.Nat.{ℕ, zero, suc, _+_, _-_, _<_, _≤_}
+use Prim.Native.Nat.{ℕ, _+_, _-_, _<_, _≤_}
 use mathlib.Core.Path.{_≡_, refl, sym, ap, _∙_}
 use mathlib.Core.List.{List, [], _∷_, _++_, append-assoc}
 use mathlib.Core.Bool.{true, false, cond}
@@ -16,6 +16,7 @@ use Rattle.text.specs.Marks.{Mark, met, beginnings, pending, shut}
 use Rattle.text.specs.laws.TextLaws.{by-case}
 use Rattle.text.specs.laws.MarkLaws.{beginnings-append}
 use Rattle.scan.specs.Places.{placed, openOf, stateOf, closedAt, phaseOf, Prospect, prospect, prospectAt, behind, shuts, Onward, Told, Closed}
+use Rattle.scan.specs.laws.Ends.{beginnings-shuts}
 use Rattle.scan.specs.declared.step.Place.{Place}
 use Rattle.scan.specs.declared.step.Step.{Step}
 use Rattle.scan.specs.declared.step.Step.the-variants as step
@@ -33,15 +34,6 @@ shutting i d h =
     by-case (ltb d 2) (λ (u : text.Step). settle i u ≡ closedAt (d - 1) i)
     (λ t. let z : d - 1 ≡ 0 = omega (arith, ltb-true d 2 t) in simp (eq-eqb (d - 1) 0 z))
     (λ t. let n : d - 1 ≡ 0 → ⊥ = λ z. omega (arith, ltb-false d 2 t) in simp (ne-eqb (d - 1) 0 n))
-
--- the ends of lists begin no element
-pub beginnings-shuts : (n : ℕ) → beginnings (shuts n) ≡ 0
-beginnings-shuts zero = refl
-beginnings-shuts (suc n) = beginnings-shuts n
-
-pub shuts-more : (n : ℕ) → shuts n ++ (shut ∷ []) ≡ shuts (suc n)
-shuts-more zero = refl
-shuts-more (suc n) = ap (λ (ms : List Mark). shut ∷ ms) (shuts-more n)
 
 -- a place i of the automaton, reached from the place a
 module _ (s : List ℕ) (a : ℕ) (t : Scan) (i : ℕ) (from : a ≤ i) (some : i < length s) (deep : 1 ≤ t .depth) (fits : t .depth ≤ levels) where

@@ -9,6 +9,7 @@ use Rattle.building.specs.Underway.{Coming, Comes, Steps, ShutsList}
 use Rattle.building.specs.laws.StepLaws.{no-step, and-then, comes-then, first-comes}
 use Rattle.building.specs.declared.hook.Hook.{Hook}
 use Rattle.scan.specs.Places.{shuts}
+use Rattle.scan.specs.laws.Ends.{shuts-append}
 use Rattle.table.specs.declared.Shape.{Shape}
 use Rattle.table.specs.View.{view, Table}
 use Rattle.text.specs.Marks.{Mark, shut}
@@ -30,10 +31,6 @@ pub stack-top : (xs : List ℕ) (d : ℕ) → 0 < d → stack xs d ≡ getD xs (
 unfolding stack
 stack-top xs zero h = absurd (omega arith)
 stack-top xs (suc d) h = let z : d ≡ suc d - 1 = omega arith in ap (λ (n : ℕ). getD xs n 0 ∷ stack xs n) z
-
-shuts-append : (n m : ℕ) → shuts n ++ shuts m ≡ shuts (n + m)
-shuts-append zero m = let z : m ≡ 0 + m = omega arith in ap shuts z
-shuts-append (suc n) m = let z : suc (n + m) ≡ suc n + m = omega arith in ap (λ (ms : List Mark). shut ∷ ms) (shuts-append n m) ∙ ap shuts z
 
 module _ {s : Shape} {h : ℕ} {ts : List ℕ} {k : Hook} (xs : List ℕ) (from : ℕ) where
   pub shut-none : Table s ts → ShutTo s h ts k xs from from ts k
