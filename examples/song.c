@@ -28,13 +28,13 @@ typedef struct {
 
 static void expect(uint32_t answer, uint32_t wanted, const char *what) {
     if (answer == wanted) return;
-    printf("%s: answer %u, not %u\n", what, (unsigned)answer, (unsigned)wanted);
+    printf("%s: %s, not %s\n", what, tab_answer_name(answer), tab_answer_name(wanted));
     exit(1);
 }
 
 /* Runs a script of one operation. It is refused exactly when the answer is not TAB_DONE, and has no result then. */
 static uint32_t try_operation(uint32_t code, uint32_t a, uint32_t b, uint32_t v, result *r) {
-    uint32_t script[] = {code, a, b, v}, words[2] = {TAB_IS_NOTHING, 0};
+    uint32_t script[TAB_SCRIPT_WORDS(1)] = {code, a, b, v}, words[TAB_RESULT_WORDS(1)] = {TAB_IS_NOTHING, 0};
     tab_outcome o =
         tab_run(table, TAB_TABLE_WORDS(CELLS), work, TAB_WORK_WORDS(CELLS), script, TAB_SCRIPT_WORDS(1), words, TAB_RESULT_WORDS(1));
     r->kind = words[0];
@@ -49,12 +49,10 @@ static result operation(uint32_t code, uint32_t a, uint32_t b, const char *what)
     return r;
 }
 
-/* Free cells are chained by their fourth word, S, from word 1 of the table. Looking is allowed; changing seldom is. */
-static unsigned free_cells(void) {
-    unsigned n = 0;
-    for (uint32_t c = table[1]; c != 0; c = table[2 + TAB_HOLDERS + 4 * (c - 1) + 3]) n++;
-    return n;
-}
+static unsigned free_cells(void) { return (unsigned)tab_free_cells(table, TAB_TABLE_WORDS(CELLS)); }
+
+/* How often the first cell of a holder's list is named. Looking into the table is allowed; changing it seldom is. */
+static unsigned named(uint32_t holder) { return (unsigned)table[TAB_COUNT_AT(table[TAB_HOLDER_AT(holder)])]; }
 
 /* Text goes in as whole records of 72 bytes, so a short one is filled with blanks. */
 static void read_list(uint32_t holder, const char *text) {
@@ -113,6 +111,10 @@ static void arrange(void) {
 static unsigned erase(uint32_t holder) { return (unsigned)operation(TAB_ERASE, holder, 0, "ERASE").value; }
 
 int main(void) {
+    if (tab_version() != TAB_VERSION) {
+        printf("the library has version %u, the header %u\n", (unsigned)tab_version(), (unsigned)TAB_VERSION);
+        return 1;
+    }
     expect(tab_set_up(table, TAB_TABLE_WORDS(CELLS), CELLS), TAB_DONE, "set up");
     printf("free at first: %u\n", free_cells());
 
@@ -138,7 +140,7 @@ int main(void) {
     /* The chorus is named by its holder and by four cells of the song, so nobody may take it apart in place. */
     result none;
     expect(try_operation(TAB_DECAP, CHORUS, ELEMENT, 0, &none), TAB_SHARED, "DECAP of a shared chorus");
-    printf("DECAP of the chorus is refused: %d\n", TAB_SHARED);
+    printf("the chorus is named %u times, so DECAP is refused: %d %s\n", named(CHORUS), TAB_SHARED, tab_answer_name(TAB_SHARED));
 
     /* Play a borrowed song: no cell is needed, none is freed, and the song is whole afterwards. */
     operation(TAB_BORROW, SONG, PLAYER, "BORROW");

@@ -1,8 +1,8 @@
 /*
  * tabeshilo.h: the C side of Tabeshilo, a list engine after Collins' SAC-1 report.
  *
- * Link with libtabeshilo.a (`rt staticlib tabeshilo` writes it to target/staticlib; it is for x86-64 Linux).
- * The archive asks for nothing but memcpy, memmove and memset.
+ * Link with libtabeshilo.a (`rt staticlib tabeshilo` writes it to target/staticlib; it is for x86-64 Linux, and
+ * docs/PORTING.md says how to have it for another processor). The archive asks for nothing but memcpy and memset.
  *
  *
  * LENT MEMORY
@@ -76,6 +76,20 @@
  * record is full the text goes on in the next, even inside an atom. Blanks (0x20) stand nowhere but behind the last
  * ")", where they fill its record; the records behind that one may hold anything. Text has at most TAB_TEXT bytes and
  * lists at most TAB_LEVELS levels, the outermost counted.
+ *
+ * Text does not keep sharing: a list that comes four times is written four times, and read back it takes its cells four
+ * times. The song of examples/chorus.session has 14 cells, its chorus of 3 once among them; its text of 64 characters,
+ * read into a fresh pool, takes 23. To keep the sharing, keep the table's words.
+ *
+ *
+ * COST
+ *
+ * tab_run, tab_read and tab_write look over the whole table once before they do anything: 8 to 18 microseconds at 4,000
+ * cells, 0.2 at 64. So give tab_run many operations at once; each then costs some 20 nanoseconds, but for those that
+ * walk: INV, CINV, CONC and LENGTH along the main level, ERASE through what it frees. The worst script that was
+ * measured, 4,096 times INV of 4,000 cells, takes 92 milliseconds. Beside each call stand the times of its longest
+ * measured cases and the most stack that any measured case used. The times are of one core of two servers, an Arm and an
+ * x86-64 (docs/BENCH.md): measure on your own processor.
  */
 #ifndef TABESHILO_H
 #define TABESHILO_H
@@ -86,6 +100,25 @@
 #ifdef __cplusplus
 extern "C" {
 #endif
+
+/* The version of this header, major * 10000 + minor * 100 + patch; tab_version() tells that of the library. */
+#define TAB_VERSION 10000
+
+/* What the library assumes of the machine that it is for. Where one of these fails, nothing here compiles. */
+#if defined(__BYTE_ORDER__) && defined(__ORDER_LITTLE_ENDIAN__) && __BYTE_ORDER__ != __ORDER_LITTLE_ENDIAN__
+#error "tabeshilo: the library is for processors that store the low byte first"
+#endif
+#if defined(__cplusplus) && __cplusplus >= 201103L
+#define TAB_ASSUMES(name, claim) static_assert(claim, "tabeshilo assumes: " #name)
+#elif defined(__STDC_VERSION__) && __STDC_VERSION__ >= 201112L
+#define TAB_ASSUMES(name, claim) _Static_assert(claim, "tabeshilo assumes: " #name)
+#else
+#define TAB_ASSUMES(name, claim) typedef char tab_assumes_##name[(claim) ? 1 : -1]
+#endif
+TAB_ASSUMES(a_byte_of_8_bits, (unsigned char)~0u == 255);
+TAB_ASSUMES(a_size_t_of_64_bits, sizeof(size_t) == 8);
+TAB_ASSUMES(pointers_of_64_bits, sizeof(void *) == 8);
+TAB_ASSUMES(words_of_32_bits, sizeof(uint32_t) == 4);
 
 /* Limits. */
 enum {
@@ -100,6 +133,14 @@ enum {
 /* Words of a table of n cells, and the words to lend as its work space; n is 1 to TAB_CELLS. */
 #define TAB_TABLE_WORDS(n) (2 + (size_t)TAB_HOLDERS + 4 * (size_t)(n))
 #define TAB_WORK_WORDS(n) (2 * (size_t)(n))
+
+/* Where in a table its words are: the first free cell; holder h, 0 to 63; and the four words of cell c, 1 to N. */
+#define TAB_FREE_AT ((size_t)1)
+#define TAB_HOLDER_AT(h) (2 + (size_t)(h))
+#define TAB_TYPE_AT(c) (2 + (size_t)TAB_HOLDERS + 4 * ((size_t)(c) - 1))
+#define TAB_ELEMENT_AT(c) (TAB_TYPE_AT(c) + 1)
+#define TAB_COUNT_AT(c) (TAB_TYPE_AT(c) + 2)
+#define TAB_SUCCESSOR_AT(c) (TAB_TYPE_AT(c) + 3)
 
 /* Words of a script of n operations, and the words to lend for its results; n is 0 to TAB_OPERATIONS. */
 #define TAB_SCRIPT_WORDS(n) (4 * (size_t)(n))
@@ -141,6 +182,12 @@ typedef struct {
     uint32_t count;
 } tab_outcome;
 
+/* It comes back in one register of 64 bits, as the calling conventions of x86-64 and aarch64 have it. */
+TAB_ASSUMES(an_outcome_of_two_words, sizeof(tab_outcome) == 8 && offsetof(tab_outcome, count) == 4);
+
+/* The version of the library: TAB_VERSION, if header and library belong together. */
+uint32_t tab_version(void);
+
 /*
  * Sets up a pool: N = cells, all cells free and chained in order from cell 1, all holders null.
  *
@@ -149,6 +196,8 @@ typedef struct {
  *
  * Returns TAB_DONE, and every word of the table is set. Or TAB_TABLE_SIZE, if N is not 1 to TAB_CELLS or
  * words != TAB_TABLE_WORDS(N), and no word is changed.
+ *
+ * Cost: writes each word once, 2 to 4 microseconds at 4,000 cells. Stack: 48 bytes.
  */
 uint32_t tab_set_up(uint32_t *table, size_t words, uint32_t cells);
 
@@ -193,6 +242,9 @@ enum {
  * run ends there with what the operations before it did. Otherwise TAB_DONE.
  *
  * count: the operations done. Result words from 2 * count on are unchanged, and so is the script.
+ *
+ * Cost: the table once, and the operations. 4,096 mixed operations on 4,000 cells take 75 to 110 microseconds, ERASE of
+ * 4,000 cells 15 to 17. Stack: 148 bytes.
  */
 tab_outcome tab_run(uint32_t *table, size_t table_words, uint32_t *work, size_t work_words, const uint32_t *script,
                     size_t script_words, uint32_t *results, size_t results_words);
@@ -211,6 +263,8 @@ tab_outcome tab_run(uint32_t *table, size_t table_words, uint32_t *work, size_t 
  * any but TAB_DONE the table is unchanged.
  *
  * count: after TAB_DONE the bytes taken, a multiple of 72; the next list, if any, starts at text + count.
+ *
+ * Cost: the table once, the list's text twice. 65,520 bytes take 63 to 121 microseconds. Stack: 976 bytes.
  */
 tab_outcome tab_read(uint32_t *table, size_t table_words, uint32_t *work, size_t work_words, uint32_t holder,
                      const uint8_t *text, size_t bytes);
@@ -228,6 +282,8 @@ tab_outcome tab_read(uint32_t *table, size_t table_words, uint32_t *work, size_t
  * if both are at the same; else TAB_DONE. After any but TAB_DONE the output is unchanged.
  *
  * count: after TAB_DONE the bytes written, a multiple of 72 that is at least 72. Output from there on is unchanged.
+ *
+ * Cost: the table once, the list twice. 65,520 bytes take 182 to 187 microseconds. Stack: 1,760 bytes.
  */
 tab_outcome tab_write(const uint32_t *table, size_t table_words, uint32_t *work, size_t work_words, uint32_t holder,
                       uint8_t *out, size_t room);
@@ -239,8 +295,31 @@ tab_outcome tab_write(const uint32_t *table, size_t table_words, uint32_t *work,
  * Answers TAB_TEXT_SIZE, TAB_END, the earliest of TAB_NOT_A_LIST, TAB_ATOM and TAB_DEEP, or TAB_DONE.
  *
  * count: after TAB_DONE the bytes taken, as tab_read would take them.
+ *
+ * Cost: the list's text once. 65,520 bytes take 27 to 109 microseconds. Stack: 112 bytes.
  */
 tab_outcome tab_check(const uint8_t *text, size_t bytes);
+
+/*
+ * Helpers that are in this header alone; the archive has no name for them.
+ *
+ * The free cells of a table, met along the free chain; of a table that is not sound the cells up to where the chain leaves
+ * the table, N at most; 0 if the table has not TAB_TABLE_WORDS(N) words.
+ */
+static inline uint32_t tab_free_cells(const uint32_t *table, size_t words) {
+    uint32_t met = 0, cell;
+    if (words < TAB_TABLE_WORDS(0) || words != TAB_TABLE_WORDS(table[0])) return 0;
+    for (cell = table[TAB_FREE_AT]; cell != 0 && cell <= table[0] && met < table[0]; cell = table[TAB_SUCCESSOR_AT(cell)]) met++;
+    return met;
+}
+
+/* An answer's name, as the rules have it: "DONE", "TABLE SIZE" and so on; "unknown" for a number that is no answer. */
+static inline const char *tab_answer_name(uint32_t answer) {
+    static const char *const name[] = {"DONE",     "TABLE SIZE", "WORK SPACE", "SCRIPT",     "RESULTS", "UNSOUND", "CODE",
+                                       "HOLDER",   "SAME",       "NULL",       "OCCUPIED",   "SHARED",  "NO ROOM", "TEXT SIZE",
+                                       "END",      "NOT A LIST", "ATOM",       "DEEP",       "OUTPUT"};
+    return answer < sizeof name / sizeof name[0] ? name[answer] : "unknown";
+}
 
 #ifdef __cplusplus
 }

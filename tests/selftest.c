@@ -513,7 +513,34 @@ static void soundness(void) {
     is("enough sound tables", sound > 2000 && sound < 18000, 1);
 }
 
+/* ---- The header's own helpers and places */
+
+static void the_header(void) {
+#ifdef LIBRARY
+    is("the library's version is the header's", tab_version(), TAB_VERSION);
+#endif
+    set_up(7);
+    is("reads", reads("((3),1)", 5), 0);
+    is("free cells", tab_free_cells(t, length()), free_now());
+    is("free cells of a table of a wrong size", tab_free_cells(t, length() - 1) + tab_free_cells(NULL, 0), 0);
+    is("the first free cell", t[TAB_FREE_AT], FREE(t));
+    is("a holder", t[TAB_HOLDER_AT(5)], HOLDS(t, 5));
+    is("a type", t[TAB_TYPE_AT(1)], TYPE(t, 1));
+    is("an element", t[TAB_ELEMENT_AT(3)], ELEMENT(t, 3));
+    is("a count", t[TAB_COUNT_AT(2)], COUNT(t, 2));
+    is("a successor", t[TAB_SUCCESSOR_AT(1)], SUCCESSOR(t, 1));
+    t[TAB_SUCCESSOR_AT(7)] = 4;
+    is("free cells of a ring", tab_free_cells(t, length()), 7);
+    t[TAB_SUCCESSOR_AT(5)] = 8;
+    is("free cells up to a number out of range", tab_free_cells(t, length()), 2);
+    is_text("the first answer", tab_answer_name(TAB_DONE), "DONE");
+    is_text("the last answer", tab_answer_name(TAB_OUTPUT), "OUTPUT");
+    is_text("an answer between", tab_answer_name(TAB_NO_ROOM), "NO ROOM");
+    is_text("no answer", tab_answer_name(TAB_OUTPUT + 1), "unknown");
+}
+
 int main(void) {
+    the_header();
     the_session();
     text_cases();
     pool_cases();

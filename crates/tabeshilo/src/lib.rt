@@ -10,6 +10,16 @@ ghost use Rattle.table.specs.declared.Form.the-variants.{Four};
 ghost use Rattle.text.specs.Text.{verdict};
 use answers::Outcome;
 
+// Of the calls as a whole: major * 10000 + minor * 100 + patch. The header's TAB_VERSION and CHANGELOG.md have it too.
+const VERSION: u32 = 10000;
+
+#[no_mangle]
+pub extern "C" fn tab_version() -> u32
+    ensures { λ r. ⌜ r ≡ 10000 ⌝ }
+{
+    VERSION
+}
+
 #[no_mangle]
 pub extern "C" fn tab_set_up(table: &mut [u32], cells: u32) -> u32
     ensures { λ r. ⌜ SetsUp r (now (table .exit)) (setUp (now (table .entry)) cells) ⌝ }
