@@ -13,6 +13,7 @@ typedef __UINTPTR_TYPE__ uintptr_t;
 int printf(const char *form, ...);
 extern void *stdout;
 int fflush(void *file);
+size_t fwrite(const void *from, size_t bytes, size_t times, void *file);
 void exit(int status);
 void _exit(int status);
 void *malloc(size_t bytes);
@@ -37,6 +38,22 @@ void (*signal(int number, void (*handler)(int)))(int);
 #define SIGFPE 8
 #define SIGSEGV 11
 #define SIGALRM 14
+
+int posix_openpt(int flags);
+int grantpt(int file);
+int unlockpt(int file);
+char *ptsname(int file);
+int open(const char *name, int flags, ...);
+int close(int file);
+int dup2(int from, int to);
+int fork(void);
+int setsid(void);
+int execvp(const char *program, char *const words[]);
+int waitpid(int process, int *status, int options);
+#define O_RDWR 2
+#define O_NOCTTY 256
+#define WIFEXITED(status) (((status) & 127) == 0)
+#define WEXITSTATUS(status) ((status) >> 8 & 255)
 
 void *mmap(void *at, size_t bytes, int access, int flags, int file, long offset);
 int mprotect(void *at, size_t bytes, int access);

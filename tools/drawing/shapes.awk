@@ -15,13 +15,18 @@ function looks(p, where, fill) {
     return "box " fill (wrong[p, where] ? " wrong" : "") (pictures == 2 && differs[where] ? " differs" : "")
 }
 
+function octal(v,   s) {
+    for (s = v % 8 ""; v >= 8; s = v % 8 s) v = int(v / 8)
+    return s
+}
+
 function draw_cell(p, c,   x, y, what) {
     x = left(p, c)
     y = top(p, c)
     box(looks(p, "c" c, count(p, c) > 1 ? "shared" : "cell"), x, y, WIDE, HIGH, 5)
     say("number", x + 7, y + 15, c)
     say((count(p, c) == 1 ? "one" : "many") (count(p, c) != arrows[p, c] + 0 ? " bad" : ""), x + WIDE - 7, y + 15, "×" count(p, c))
-    if (type(p, c) == 0) what = sprintf("%o", element(p, c))
+    if (type(p, c) == 0) what = octal(element(p, c))
     else if (type(p, c) > 1) what = "type " type(p, c)
     else if (element(p, c) == 0) what = "( )"
     else if (!live(p, element(p, c))) what = "→ " element(p, c)

@@ -1,6 +1,8 @@
 # The words of one or two tables, from lines of bytes. p is the picture that a table is drawn in, 1 or 2; n[p] its
 # cells, and word[p, i] its words.
 
+BEGIN { CONVFMT = "%.0f" } # large numbers are whole numbers too
+
 /^table / { name[++pictures] = substr($0, 7); bytes = 0; next }
 { for (i = 1; i <= NF; i++) byte[pictures, bytes++] = $i; size[pictures] = bytes }
 
