@@ -1,5 +1,7 @@
 -- The answer numbers of document 01 by their names, and what a call gives besides what it lends: an answer and a number.
+use mathlib.Core.Bool.{cond}
 use Prim.Native.Nat.{ℕ}
+use lib.Dec.{eqb}
 use Rattle.answers.specs.declared.Outcome.{Outcome}
 
 abbrev pub DONE : ℕ
@@ -9,7 +11,7 @@ DONE = 0
 abbrev pub TABLE-SIZE : ℕ
 TABLE-SIZE = 1
 
--- fewer than 2 N words are lent
+-- fewer words are lent than the call needs for N cells
 abbrev pub WORK-SPACE : ℕ
 WORK-SPACE = 2
 
@@ -17,7 +19,7 @@ WORK-SPACE = 2
 abbrev pub SCRIPT : ℕ
 SCRIPT = 3
 
--- fewer than two words for each operation
+-- too few words for the results
 abbrev pub RESULTS : ℕ
 RESULTS = 4
 
@@ -25,7 +27,7 @@ RESULTS = 4
 abbrev pub UNSOUND : ℕ
 UNSOUND = 5
 
--- not 1 to 11
+-- not the code of an operation
 abbrev pub CODE : ℕ
 CODE = 6
 
@@ -86,3 +88,7 @@ refused n = outcome n 0
 
 abbrev pub done : ℕ → Outcome
 done k = outcome DONE k
+
+-- a call goes on where its tests so far answer DONE, and else is refused with their answer
+abbrev pub unless : {X : Type 0} → ℕ → (ℕ → X) → X → X
+unless n refuse go = cond (eqb n DONE) go (refuse n)

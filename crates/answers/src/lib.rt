@@ -1,4 +1,4 @@
-// The numbers that the calls go by: answers, codes of operations, and the answer of a call with the number beside it.
+// The numbers that the calls go by: answers, codes of operations, kinds of results, and the answer of a call with the number beside it.
 ghost use mathlib.Core.Path.{_≡_};
 ghost use Rattle.answers.specs.Answers.{refused, done, outcome};
 
@@ -69,6 +69,21 @@ impl Code {
     pub const FIRST: u32 = 10;
 
     pub const LENGTH: u32 = 11;
+
+    pub const LAST: u32 = Code::LENGTH;
+}
+
+// The kinds of results.
+pub struct Kind(pub u32);
+
+impl Kind {
+    pub const ATOM: u32 = 0;
+
+    pub const LIST: u32 = 1;
+
+    pub const NUMBER: u32 = 2;
+
+    pub const NOTHING: u32 = 3;
 }
 
 // An answer, and operations done, bytes taken or bytes written.

@@ -8,6 +8,7 @@ use Prim.Native.Nat.{ℕ, zero, suc}
 use lib.Dec.{eqb}
 use lib.ListN.{length, replicate}
 use Rattle.answers.specs.Answers.{DONE}
+use Rattle.answers.specs.Codes.{atomKind, numberKind, nothingKind}
 use Rattle.lists.specs.Lst.{Lst, len, order, extent, onto, reversed}
 use Rattle.pool.specs.Erase.{dropping, visit, step, total, dropped}
 use Rattle.pool.specs.Operations.{read, laid, fresh, pfl, erase, span, load, listFrom, listOf}
@@ -18,7 +19,7 @@ use Rattle.table.specs.Limits.{holdersMost}
 use Rattle.text.specs.Limits.{recordBytes}
 use Rattle.text.specs.ListText.{textOf}
 use Rattle.text.specs.Marks.{listIn}
-use Rattle.text.specs.Text.{scanned, verdict}
+use Rattle.text.specs.Text.{scanned, sizeFault, verdict}
 use Rattle.calls.specs.Entry.{over}
 use Rattle.calls.specs.Run.{operations}
 use Rattle.calls.specs.Chars.{chars}
@@ -94,7 +95,7 @@ stated =
     stays (0 ∷ 1 ∷ 0 ∷ 2 ∷ []) "()" "()" (1 ∷ 2 ∷ 3 ∷ 4 ∷ 5 ∷ 6 ∷ []) ∷
     stays (1 ∷ 2 ∷ 1 ∷ 4 ∷ []) "(())" "(())" (2 ∷ 3 ∷ 4 ∷ 5 ∷ 6 ∷ []) ∷
     stays (3 ∷ 2 ∷ 6 ∷ 13 ∷ []) "((3),1,(1,2))" "((1,2),1,(3))" [] ∷
-    record { answer = DONE; figures = 1 ∷ 1 ∷ 1 ∷ 4 ∷ []; text = chars "(12)"; backwards = chars "(12)"; results = 0 ∷ 10 ∷ []; after = chars "(12)"; free = 2 ∷ 3 ∷ 4 ∷ 5 ∷ 6 ∷ [] } ∷
+    record { answer = DONE; figures = 1 ∷ 1 ∷ 1 ∷ 4 ∷ []; text = chars "(12)"; backwards = chars "(12)"; results = atomKind ∷ 10 ∷ []; after = chars "(12)"; free = 2 ∷ 3 ∷ 4 ∷ 5 ∷ 6 ∷ [] } ∷
     stays (1 ∷ 1 ∷ 1 ∷ 13 ∷ []) "(37777777777)" "(37777777777)" (2 ∷ 3 ∷ 4 ∷ 5 ∷ 6 ∷ []) ∷
     refusedRow 16 ∷
     refusedRow 16 ∷
@@ -102,10 +103,10 @@ stated =
     refusedRow 15 ∷
     refusedRow 15 ∷
     refusedRow 15 ∷
-    record { answer = DONE; figures = 2 ∷ 2 ∷ 3 ∷ 7 ∷ []; text = chars "((3),1)"; backwards = chars "(1,(3))"; results = 2 ∷ 3 ∷ []; after = chars "()"; free = 2 ∷ 1 ∷ 3 ∷ 4 ∷ [] } ∷
-    record { answer = DONE; figures = 0 ∷ 1 ∷ 0 ∷ 2 ∷ []; text = chars "()"; backwards = chars "()"; results = 3 ∷ 0 ∷ []; after = chars "(())"; free = [] } ∷
+    record { answer = DONE; figures = 2 ∷ 2 ∷ 3 ∷ 7 ∷ []; text = chars "((3),1)"; backwards = chars "(1,(3))"; results = numberKind ∷ 3 ∷ []; after = chars "()"; free = 2 ∷ 1 ∷ 3 ∷ 4 ∷ [] } ∷
+    record { answer = DONE; figures = 0 ∷ 1 ∷ 0 ∷ 2 ∷ []; text = chars "()"; backwards = chars "()"; results = nothingKind ∷ 0 ∷ []; after = chars "(())"; free = [] } ∷
     []
 
 pub edges : map row cases ≡ stated
-unfolding verdict scanned listIn len order extent reversed onto performed refusal effect read load fresh laid operations listFrom erase dropped total dropping step visit tally frees same pfl span
+unfolding sizeFault verdict scanned listIn len order extent reversed onto performed refusal effect read load fresh laid operations listFrom erase dropped total dropping step visit tally frees same pfl span
 edges = refl

@@ -22,11 +22,13 @@ pub record Runs (r : Outcome) (ts ws rs : List ℕ) (q : Ran) : Type 0 where
   pub results : rs ≡ q .results
 
 -- reading: table and work space; the text is only read
-pub record Reads (q : Read) (r : Outcome) (ts ws : List ℕ) : Type 0 where
-  pub answer : r ≡ outcome (q .answer) (q .count)
+pub record Reads (r : Outcome) (ts ws : List ℕ) (q : Read) : Type 0 where
+  pub outcome : r ≡ outcome (q .answer) (q .count)
   pub table : ts ≡ q .table
   pub work : ws ≡ q .work
 
 -- writing: work space and output; the table is only read
-abbrev pub wrote : Outcome → List ℕ → List ℕ → Write
-wrote r ws out = record { answer = r .answer; count = r .count; work = ws; output = out }
+pub record Writes (r : Outcome) (ws out : List ℕ) (q : Write) : Type 0 where
+  pub outcome : r ≡ outcome (q .answer) (q .count)
+  pub work : ws ≡ q .work
+  pub output : out ≡ q .output

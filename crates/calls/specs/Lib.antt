@@ -7,3 +7,4 @@ pub mod Contracts
 pub mod Chars
 pub mod SameForm
 pub mod Cases
+pub mod laws

@@ -1,23 +1,19 @@
--- What reading a text into a holder gives, for all words and bytes: every refusal before anything is changed, the earliest text fault before NO ROOM.
-use mathlib.Core.Bool.{Bool, cond, not, _||_}
+-- What reading a text into a holder gives, for all words and bytes: every refusal comes before anything is changed, and the earliest text
+-- fault before NO ROOM.
+use mathlib.Core.Bool.{cond, not}
 use mathlib.Core.List.{List}
-use Prim.Native.Nat.{ℕ, _%_}
+use Prim.Native.Nat.{ℕ}
 use lib.Dec.{eqb, ltb}
 use lib.ListN.{length}
-use Rattle.answers.specs.Answers.{DONE, TABLE-SIZE, WORK-SPACE, UNSOUND, HOLDER, OCCUPIED, NO-ROOM, TEXT-SIZE, END}
+use Rattle.answers.specs.Answers.{DONE, UNSOUND, HOLDER, OCCUPIED, NO-ROOM, unless}
 use Rattle.lists.specs.Lst.{extent}
 use Rattle.pool.specs.Operations.{read}
 use Rattle.pool.specs.Pool.{holder, frees}
-use Rattle.text.specs.Limits.{recordBytes, textMost}
 use Rattle.text.specs.Marks.{listIn}
-use Rattle.text.specs.Text.{verdict}
+use Rattle.text.specs.Text.{sizeFault, verdict}
 use Rattle.table.specs.declared.Form.{Form}
 use Rattle.table.specs.declared.Form.the-variants.{Four}
-use Rattle.calls.specs.Entry.{badTable, badWork, noHolder, shown, unsound, stored, used}
-
--- TEXT SIZE: not a multiple of a record, or too many bytes
-abbrev pub badText : List ℕ → Bool
-badText xs = not (eqb (length xs % recordBytes) 0) || ltb textMost (length xs)
+use Rattle.calls.specs.Entry.{workWords, entryFault, noHolder, shown, unsound, stored, used}
 
 -- the answer, the bytes taken, and the lent words afterwards
 pub record Read : Type 0 where
@@ -35,19 +31,17 @@ readInto f ts ws h xs =
     let p = shown f ts in
     let v = verdict xs in
     cond (not (eqb (holder p h) 0)) (notRead OCCUPIED ts (used f ts ws))
-    (cond (not (eqb (v .no) DONE)) (notRead (v .no) ts (used f ts ws))
+    (unless (v .no) (λ n. notRead n ts (used f ts ws))
     (cond (ltb (frees (p .cells)) (extent (listIn xs))) (notRead NO-ROOM ts (used f ts ws))
     (record { answer = DONE; count = v .taken; table = stored f ts (read p h (listIn xs)); work = used f ts ws })))
 
 unfoldable pub readingIn : Form → List ℕ → List ℕ → ℕ → List ℕ → Read
 readingIn f ts ws h xs =
-    cond (badTable f ts) (notRead TABLE-SIZE ts ws)
-    (cond (badWork f ts ws) (notRead WORK-SPACE ts ws)
+    unless (entryFault workWords f ts (length ws)) (λ n. notRead n ts ws)
     (cond (noHolder f ts h) (notRead HOLDER ts ws)
-    (cond (badText xs) (notRead TEXT-SIZE ts ws)
-    (cond (eqb (length xs) 0) (notRead END ts ws)
+    (unless (sizeFault xs) (λ n. notRead n ts ws)
     (cond (unsound f ts) (notRead UNSOUND ts (used f ts ws))
-    (readInto f ts ws h xs))))))
+    (readInto f ts ws h xs))))
 
 -- on a table with four words a cell
 abbrev pub readIn : List ℕ → List ℕ → ℕ → List ℕ → Read

@@ -5,10 +5,9 @@ use mathlib.Core.Bool.{Bool, true, false, cond, not, false≢true}
 use mathlib.Core.List.{List}
 use Prim.Native.Nat.{ℕ, _*_, _≤_}
 use native.Mathlib.Omega.{arith}
-use lib.Dec.{eqb, leb, ltb}
+use lib.Dec.{eqb, leb}
 use lib.ListN.{length, drop}
-use borrow.Author.Tests.{ne-eqb}
-use Rattle.answers.specs.Answers.{DONE, TABLE-SIZE, WORK-SPACE, SCRIPT, RESULTS, UNSOUND, HOLDER, OCCUPIED, NO-ROOM, TEXT-SIZE, END}
+use Rattle.answers.specs.Answers.{DONE, UNSOUND, HOLDER, unless}
 use Rattle.pool.specs.Check.{check}
 use Rattle.pool.specs.laws.CheckLaws.{check-decides}
 use Rattle.pool.specs.laws.Lengths.{Alike}
@@ -21,10 +20,11 @@ use Rattle.table.specs.laws.Fitting.{stored-shows}
 use Rattle.table.specs.Sizes.{cellsOf, shapeOf, cleared}
 use Rattle.table.specs.laws.SizesLaws.{table-shape}
 use Rattle.table.specs.View.{holderCount, view, words, Table}
-use Rattle.calls.specs.Entry.{badTable, badWork, shown, unsound, stored, used}
+use Rattle.calls.specs.Entry.{workWords, entryFault, shown, stored, used}
+use Rattle.calls.specs.laws.EntryLaws.{entry-alike}
 use Rattle.pool.specs.Operations.{listOf}
 use Rattle.calls.specs.Write.{notWritten, writeList, writingIn}
-use Rattle.calls.specs.Run.{badScript, badResults, operations, Ran, notRun, ranTo, ranIn}
+use Rattle.calls.specs.Run.{scriptFault, operations, Ran, notRun, ranTo, ranIn}
 
 -- tables of the right sizes that show one pool
 pub record StandsFor (f g : Form) (ts us : List ℕ) : Type 0 where
@@ -60,6 +60,10 @@ module _ (f g : Form) (ts us : List ℕ) (k : StandsFor f g ts us) where
   pub same-cells : cellsOf f ts ≡ cellsOf g us
   same-cells = sym (k .first .measured) ∙ ap (λ (p : Pool). length (p .cells)) (k .same) ∙ k .second .measured
 
+  -- so the first tests answer the same
+  pub same-entry : (w n : ℕ) → entryFault w f ts n ≡ entryFault w g us n
+  same-entry w n = entry-alike w n f g ts us same-cells
+
   same-stored : (p : Pool) → Alike (shown f ts) p → Sound p → StandsFor f g (stored f ts p) (stored g us p)
   same-stored p a h =
       let x = stores f ts p (k .first) a h in
@@ -71,27 +75,24 @@ module _ (f g : Form) (ts us : List ℕ) (k : StandsFor f g ts us) where
     refusals n = record { answer = refl; count = refl; work = refl; results = refl; tables = k }
 
     same-used : used f ts ws ≡ used g us ws
-    same-used = ap (λ (n : ℕ). cleared (2 * n) ws) same-cells
+    same-used = ap (λ (n : ℕ). cleared (workWords * n) ws) same-cells
 
     -- test by test, each the same for both
     pub runs-same : SameRun f g (ranIn f ts ws ss rs) (ranIn g us ws ss rs)
     unfolding ranIn
     runs-same =
-        table (badTable f ts) (badTable g us) (ap (λ (n : ℕ). eqb n 0) same-cells)
-        (work (badWork f ts ws) (badWork g us ws) (ap (λ (n : ℕ). ltb (length ws) (2 * n)) same-cells)
-        (either (badScript ss) (refusals SCRIPT)
-        (either (badResults ss rs) (refusals RESULTS)
-        (sound (check (shown f ts)) (check (shown g us)) refl (ap check (k .same))))))
+        entry (entryFault workWords g us (length ws)) (same-entry workWords (length ws))
+        (either (eqb (scriptFault ss rs) DONE) (sound (check (shown f ts)) (check (shown g us)) refl (ap check (k .same))) (refusals (scriptFault ss rs)))
       where
         either : (b : Bool) {q r x y : Ran} → SameRun f g q r → SameRun f g x y → SameRun f g (cond b q x) (cond b r y)
         either true m n = m
         either false m n = n
 
-        table : (b c : Bool) → b ≡ c → {x y : Ran} → SameRun f g x y → SameRun f g (cond b (notRun TABLE-SIZE ts ws rs) x) (cond c (notRun TABLE-SIZE us ws rs) y)
-        table b c e {x} {y} n = subst (λ (d : Bool). SameRun f g (cond b (notRun TABLE-SIZE ts ws rs) x) (cond d (notRun TABLE-SIZE us ws rs) y)) e (either b (refusals TABLE-SIZE) n)
-
-        work : (b c : Bool) → b ≡ c → {x y : Ran} → SameRun f g x y → SameRun f g (cond b (notRun WORK-SPACE ts ws rs) x) (cond c (notRun WORK-SPACE us ws rs) y)
-        work b c e {x} {y} n = subst (λ (d : Bool). SameRun f g (cond b (notRun WORK-SPACE ts ws rs) x) (cond d (notRun WORK-SPACE us ws rs) y)) e (either b (refusals WORK-SPACE) n)
+        entry : (n : ℕ) → entryFault workWords f ts (length ws) ≡ n → {x y : Ran} → SameRun f g x y
+            → SameRun f g (unless (entryFault workWords f ts (length ws)) (λ m. notRun m ts ws rs) x) (unless n (λ m. notRun m us ws rs) y)
+        entry n e {x} {y} s =
+            subst (λ (m : ℕ). SameRun f g (unless (entryFault workWords f ts (length ws)) (λ j. notRun j ts ws rs) x) (unless m (λ j. notRun j us ws rs) y)) e
+            (either (eqb (entryFault workWords f ts (length ws)) DONE) s (refusals (entryFault workWords f ts (length ws))))
 
         unsounds : SameRun f g (notRun UNSOUND ts (used f ts ws) rs) (notRun UNSOUND us (used g us ws) rs)
         unsounds = record { answer = refl; count = refl; work = same-used; results = refl; tables = k }
@@ -122,8 +123,7 @@ module _ (f g : Form) (ts us : List ℕ) (k : StandsFor f g ts us) where
   pub writes-same : (ws : List ℕ) (h : ℕ) (out : List ℕ) → writingIn f ts ws h out ≡ writingIn g us ws h out
   unfolding writingIn
   writes-same ws h out = λ i.
-      cond (eqb (same-cells f g ts us k i) 0) (notWritten TABLE-SIZE ws out)
-      (cond (ltb (length ws) (2 * same-cells f g ts us k i)) (notWritten WORK-SPACE ws out)
+      unless (same-entry f g ts us k workWords (length ws) i) (λ n. notWritten n ws out)
       (cond (leb (same-holders i) h) (notWritten HOLDER ws out)
-      (cond (not (check (k .same i))) (notWritten UNSOUND (cleared (2 * same-cells f g ts us k i) ws) out)
-      (writeList (listOf (k .same i) h) (cleared (2 * same-cells f g ts us k i) ws) out))))
+      (cond (not (check (k .same i))) (notWritten UNSOUND (cleared (workWords * same-cells f g ts us k i) ws) out)
+      (writeList (listOf (k .same i) h) (cleared (workWords * same-cells f g ts us k i) ws) out)))

@@ -6,42 +6,9 @@ use Prim.Native.Nat.{ℕ, suc}
 use lib.Dec.{eqb, leb, ltb}
 use lib.ListN.{length}
 use Rattle.answers.specs.Answers.{DONE, CODE, HOLDER, SAME, NULL, OCCUPIED, SHARED, NO-ROOM}
+pub use Rattle.answers.specs.Codes.{PFA, PFL, DECAP, ADV, BORROW, ERASE, INV, CINV, CONC, FIRST, LENGTH, lastCode, atomKind, numberKind, nothingKind}
 use Rattle.pool.specs.Pool.{Pool, at, countOf, holder, frees}
 use Rattle.pool.specs.Operations.{pfa, pfl, decap, adv, borrow, erase, inv, cinv, conc, lengthOf, sharedAt}
-
--- the operations by their codes
-abbrev pub PFA : ℕ
-PFA = 1
-
-abbrev pub PFL : ℕ
-PFL = 2
-
-abbrev pub DECAP : ℕ
-DECAP = 3
-
-abbrev pub ADV : ℕ
-ADV = 4
-
-abbrev pub BORROW : ℕ
-BORROW = 5
-
-abbrev pub ERASE : ℕ
-ERASE = 6
-
-abbrev pub INV : ℕ
-INV = 7
-
-abbrev pub CINV : ℕ
-CINV = 8
-
-abbrev pub CONC : ℕ
-CONC = 9
-
-abbrev pub FIRST : ℕ
-FIRST = 10
-
-abbrev pub LENGTH : ℕ
-LENGTH = 11
 
 -- four words of a script
 pub record Operation : Type 0 where
@@ -60,7 +27,7 @@ usesB c = among c (PFL ∷ DECAP ∷ ADV ∷ BORROW ∷ CINV ∷ CONC ∷ [])
 
 -- CODE: not 1 to 11
 abbrev pub badCode : Operation → Bool
-badCode o = not (leb PFA (o .code) && leb (o .code) LENGTH)
+badCode o = not (leb PFA (o .code) && leb (o .code) lastCode)
 
 -- HOLDER: a used holder that is none
 abbrev pub badHolder : Pool → Operation → Bool
@@ -108,17 +75,17 @@ pub record Effect : Type 0 where
   pub kind : ℕ
   pub value : ℕ
 
--- 0 and the first element of a where it is an atom, else 1 and 0
+-- the first element of a where it is an atom, else that it is a list, which is its type 1
 abbrev pub tellsFirst : Pool → ℕ → Pool → Effect
 tellsFirst p a q =
     let x = at (p .cells) (holder p a) in
-    record { pool = q; kind = x .kind; value = cond (eqb (x .kind) 0) (x .elem) 0 }
+    record { pool = q; kind = x .kind; value = cond (eqb (x .kind) atomKind) (x .elem) 0 }
 
 abbrev pub tellsNumber : ℕ → Pool → Effect
-tellsNumber n q = record { pool = q; kind = 2; value = n }
+tellsNumber n q = record { pool = q; kind = numberKind; value = n }
 
 abbrev pub tellsNothing : Pool → Effect
-tellsNothing q = record { pool = q; kind = 3; value = 0 }
+tellsNothing q = record { pool = q; kind = nothingKind; value = 0 }
 
 unfoldable pub effect : Pool → Operation → Effect
 effect p o =

@@ -42,7 +42,7 @@ module _ (form : Form) (E : Engine) (K : Keeps form E) where
       go (inl n) =
           let h = passes form ts ws ss rs n in
           let (qs, s, e) = K .first .scripts-stop ts ws ss rs n in
-          let (x, y, z, v) = stops-as form E K ws (operations ss) (passed-good form h) (h .work) s in
+          let (x, y, z, v) = stops-as form E K ws (operations ss) (passed-good form h) (h .entry) s in
           let w = sym (runs form ts ws ss rs h) in
           record {
             answer = x ∙ ap (λ (r : Ran). r .answer) w;

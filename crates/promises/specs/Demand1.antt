@@ -5,12 +5,13 @@ use mathlib.Core.Path.{_≡_}
 use mathlib.Core.Logic.{_≢_}
 use mathlib.Core.List.{List, [], _∷_, _++_}
 use Prim.Native.Nat.{ℕ, suc, _*_}
-use lib.ListN.{take}
+use lib.ListN.{take, replicate}
 use Rattle.answers.specs.Answers.{DONE}
+use Rattle.answers.specs.Codes.{resultWords}
 use Rattle.pool.specs.Script.{Operation}
 use Rattle.table.specs.Limits.{cellsTold}
 use Rattle.table.specs.Sizes.{cleared}
-use Rattle.calls.specs.Entry.{shown, over}
+use Rattle.calls.specs.Entry.{workWords, shown, over}
 use Rattle.calls.specs.Run.{Ran, operations}
 use Rattle.promises.specs.Engine.{Engine}
 use Rattle.promises.specs.Rows.{Row, First, Answers, None}
@@ -24,7 +25,7 @@ wordsOf o = o .code ∷ o .a ∷ o .b ∷ o .v ∷ []
 
 -- what the engine makes of a script of one operation
 abbrev pub alone : Engine → List ℕ → List ℕ → Operation → Ran
-alone E ws ts o = E .run ts ws (wordsOf o) (0 ∷ 0 ∷ [])
+alone E ws ts o = E .run ts ws (wordsOf o) (replicate resultWords 0)
 
 -- from the table ts the operations give this answer, this number of them done, this table and these results:
 -- each is answered by its rows, and one that is refused ends it
@@ -68,7 +69,7 @@ RefusedCheck E = (xs : List ℕ) → E .check xs .no ≢ DONE → E .check xs .t
 
 -- the work space vs afterwards: ws as lent where one of the rows holds, else 2N zeros and behind them as lent
 abbrev pub WorkSpace : List Row → List ℕ → List ℕ → List ℕ → Type 0
-WorkSpace rows ts ws vs = ((None rows → ⊥) → vs ≡ ws) × (None rows → vs ≡ cleared (2 * cellsTold ts) ws)
+WorkSpace rows ts ws vs = ((None rows → ⊥) → vs ≡ ws) × (None rows → vs ≡ cleared (workWords * cellsTold ts) ws)
 
 -- the rows that leave it untouched: 1 to 4 of a run, 1, 2, 7, 13 and 14 of reading, 1, 2 and 7 of writing
 abbrev pub RunWork : (form : Form) → Engine → Type 0

@@ -15,7 +15,7 @@ use Rattle.table.specs.Limits.{cellsTold, holdersTold}
 use Rattle.text.specs.Limits.{levels, recordBytes}
 use Rattle.text.specs.ListText.{textOf, fill, bare}
 use Rattle.text.specs.Writing.{usable}
-use Rattle.calls.specs.Entry.{shown, over}
+use Rattle.calls.specs.Entry.{workWords, shown, over}
 use Rattle.calls.specs.Run.{operations}
 use Rattle.promises.specs.Engine.{Engine}
 use Rattle.promises.specs.Grounds.{BadTable, UsesB}
@@ -53,7 +53,7 @@ Words ts = (i : ℕ) → getD ts i 0 < 2 ^ 32
 -- a sound table lent with work space enough
 pub record Ready (form : Form) (ts ws : List ℕ) : Type 0 where
   pub table : BadTable form ts → ⊥
-  pub work : 2 * cellsTold ts ≤ length ws
+  pub work : workWords * cellsTold ts ≤ length ws
   pub sound : Sound (shown form ts)
 
 -- a new pool of n cells and h holders: the first free cell is 1, cell i is followed by i + 1 and the last by 0, and all
@@ -137,7 +137,7 @@ WrittenReadsBack form E =
 abbrev pub ReadWritesBack : Engine → Type 0
 ReadWritesBack E =
     (ts ws vs out : List ℕ) (h : ℕ) (xs t : List ℕ) → let r = E .read ts ws h xs in
-    r .answer ≡ DONE → Records xs (r .count) t → 2 * cellsTold ts ≤ length vs → r .count ≤ length out
+    r .answer ≡ DONE → Records xs (r .count) t → workWords * cellsTold ts ≤ length vs → r .count ≤ length out
     → let w = E .write (r .table) vs h out in
     (w .answer ≡ DONE) × (w .output ≡ over (filled (plain t)) out)
 

@@ -6,12 +6,13 @@ use mathlib.Core.List.{List, [], _∷_}
 use Prim.Native.Nat.{ℕ, suc, _+_, _≤_, _<_}
 use lib.ListN.{length, getD}
 use Rattle.answers.specs.Answers.{DONE, NO-ROOM}
+use Rattle.answers.specs.Codes.{resultWords, numberKind}
 use Rattle.lists.specs.Lst.{Lst, extent}
 use Rattle.pool.specs.Tally.{occ, Number}
 use Rattle.pool.specs.Pool.{Pool, countOf, holder, InPool, Walk, Chain, Sound, into, Reaches}
 use Rattle.pool.specs.Script.{ERASE, Operation}
 use Rattle.text.specs.Marks.{listIn}
-use Rattle.calls.specs.Entry.{shown}
+use Rattle.calls.specs.Entry.{workWords, shown}
 use Rattle.promises.specs.Engine.{Engine, Reached}
 use Rattle.promises.specs.Rows.{None}
 use Rattle.promises.specs.Grounds.{NoHolder, BadTable, BadWork, Needs, beforeRoom}
@@ -64,7 +65,7 @@ EraseFrees form E =
 abbrev pub EraseCounts : (form : Form) → Engine → Type 0
 EraseCounts form E =
     (ts ws rs : List ℕ) (a b v : ℕ) → let r = E .run ts ws (erasing a b v) rs in
-    r .answer ≡ DONE → (getD (r .results) 0 0 ≡ 2) × Number (OnlyBy (shown form ts) a) (length (shown form ts .cells)) (getD (r .results) 1 0)
+    r .answer ≡ DONE → (getD (r .results) 0 0 ≡ numberKind) × Number (OnlyBy (shown form ts) a) (length (shown form ts .cells)) (getD (r .results) 1 0)
 
 -- the cells reached can be counted
 abbrev pub ReachedCounted : (form : Form) → Engine → Type 0
@@ -77,13 +78,13 @@ Lent form E ts = Reached E ts ⊎ ((BadTable form ts → ⊥) × Sound (shown fo
 -- where all rows before it are passed, NO ROOM tells that reached and needed cells are together more than there are
 abbrev pub NoRoomToPerform : (form : Form) → Engine → Type 0
 NoRoomToPerform form E =
-    (ts ws rs : List ℕ) (o : Operation) (k n : ℕ) → Lent form E ts → (BadWork ts ws → ⊥) → 2 ≤ length rs → None (beforeRoom (shown form ts) o)
+    (ts ws rs : List ℕ) (o : Operation) (k n : ℕ) → Lent form E ts → (BadWork workWords ts ws → ⊥) → resultWords ≤ length rs → None (beforeRoom (shown form ts) o)
     → Number (Used (shown form ts)) (length (shown form ts .cells)) k → Needs (shown form ts) o n
     → (E .run ts ws (wordsOf o) rs .answer ≡ NO-ROOM) ↔ (length (shown form ts .cells) < k + n)
 
 abbrev pub NoRoomToRead : (form : Form) → Engine → Type 0
 NoRoomToRead form E =
-    (ts ws : List ℕ) (h : ℕ) (xs : List ℕ) (k : ℕ) → Lent form E ts → (BadWork ts ws → ⊥) → (NoHolder (shown form ts) h → ⊥) → None (sizeRows xs) → holder (shown form ts) h ≡ 0 → None (faultRows xs)
+    (ts ws : List ℕ) (h : ℕ) (xs : List ℕ) (k : ℕ) → Lent form E ts → (BadWork workWords ts ws → ⊥) → (NoHolder (shown form ts) h → ⊥) → None (sizeRows xs) → holder (shown form ts) h ≡ 0 → None (faultRows xs)
     → Number (Used (shown form ts)) (length (shown form ts .cells)) k
     → (E .read ts ws h xs .answer ≡ NO-ROOM) ↔ (length (shown form ts .cells) < k + extent (listIn xs))
 

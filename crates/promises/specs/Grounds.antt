@@ -6,12 +6,12 @@ use mathlib.Core.List.{List, [], _∷_, _++_}
 use Prim.Native.Nat.{ℕ, zero, suc, _*_, _/_, _%_, _≤_, _<_}
 use lib.ListN.{length}
 use Rattle.answers.specs.Answers.{TABLE-SIZE, WORK-SPACE, SCRIPT, RESULTS, UNSOUND, CODE, HOLDER, SAME, NULL, OCCUPIED, SHARED, NO-ROOM}
+use Rattle.answers.specs.Codes.{operationWords, scriptMost, resultWords}
 use Rattle.lists.specs.Lst.{Lst, len}
 use Rattle.pool.specs.Pool.{Cell, Pool, countOf, nextOf, holder, ListAt, frees, Sound}
-use Rattle.pool.specs.Script.{PFA, PFL, DECAP, ADV, BORROW, INV, CINV, CONC, FIRST, LENGTH, Operation}
+use Rattle.pool.specs.Script.{PFA, PFL, DECAP, ADV, BORROW, INV, CINV, CONC, FIRST, lastCode, Operation}
 use Rattle.table.specs.Limits.{cellsMost, holdersFit, cellsTold, holdersTold, tableWords}
-use Rattle.calls.specs.Entry.{shown}
-use Rattle.calls.specs.Run.{operationsMost}
+use Rattle.calls.specs.Entry.{workWords, shown}
 use Rattle.promises.specs.Rows.{Row, row, OneOf}
 use Rattle.table.specs.declared.Form.{Form}
 
@@ -22,14 +22,15 @@ BadSize form h n k = (n < 1) ⊎ (cellsMost form < n) ⊎ (holdersFit form h ≡
 abbrev pub BadTable : (form : Form) → List ℕ → Type 0
 BadTable form ts = BadSize form (holdersTold form ts) (cellsTold ts) (length ts)
 
-abbrev pub BadWork : List ℕ → List ℕ → Type 0
-BadWork ts ws = length ws < 2 * cellsTold ts
+-- fewer than k words for each cell
+abbrev pub BadWork : ℕ → List ℕ → List ℕ → Type 0
+BadWork k ts ws = length ws < k * cellsTold ts
 
 abbrev pub BadScript : List ℕ → Type 0
-BadScript ss = (length ss % 4 ≢ 0) ⊎ (4 * operationsMost < length ss)
+BadScript ss = (length ss % operationWords ≢ 0) ⊎ (scriptMost < length ss)
 
 abbrev pub BadResults : List ℕ → List ℕ → Type 0
-BadResults ss rs = length rs < 2 * (length ss / 4)
+BadResults ss rs = length rs < resultWords * (length ss / operationWords)
 
 abbrev pub Unsound : (form : Form) → List ℕ → Type 0
 Unsound form ts = Sound (shown form ts) → ⊥
@@ -42,16 +43,18 @@ NoHolder p h = length (p .holders) ≤ h
 abbrev pub setUpRows : (form : Form) → List ℕ → ℕ → ℕ → List Row
 setUpRows form ts n h = row TABLE-SIZE (BadSize form h n (length ts)) ∷ []
 
+-- every call on a table, at its start
+
+abbrev pub entryRows : ℕ → (form : Form) → List ℕ → List ℕ → List Row
+entryRows k form ts ws = row TABLE-SIZE (BadTable form ts) ∷ row WORK-SPACE (BadWork k ts ws) ∷ []
+
 -- a script run, before its operations
 
+abbrev pub scriptRows : List ℕ → List ℕ → List Row
+scriptRows ss rs = row SCRIPT (BadScript ss) ∷ row RESULTS (BadResults ss rs) ∷ []
+
 abbrev pub runRows : (form : Form) → List ℕ → List ℕ → List ℕ → List ℕ → List Row
-runRows form ts ws ss rs =
-    row TABLE-SIZE (BadTable form ts)
-    ∷ row WORK-SPACE (BadWork ts ws)
-    ∷ row SCRIPT (BadScript ss)
-    ∷ row RESULTS (BadResults ss rs)
-    ∷ row UNSOUND (Unsound form ts)
-    ∷ []
+runRows form ts ws ss rs = entryRows workWords form ts ws ++ (scriptRows ss rs ++ (row UNSOUND (Unsound form ts) ∷ []))
 
 -- an operation
 
@@ -86,7 +89,7 @@ abbrev pub SomeShared : Pool → ℕ → Type 0
 SomeShared p a = (c : ℕ) × MainLevel p a c × (1 < countOf (p .cells) c)
 
 abbrev pub BadCode : Operation → Type 0
-BadCode o = (o .code < PFA) ⊎ (LENGTH < o .code)
+BadCode o = (o .code < PFA) ⊎ (lastCode < o .code)
 
 abbrev pub BadHolder : Pool → Operation → Type 0
 BadHolder p o = NoHolder p (o .a) ⊎ (UsesB (o .code) × NoHolder p (o .b))

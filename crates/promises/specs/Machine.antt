@@ -4,6 +4,7 @@ use mathlib.Core.Bool.{cond}
 use mathlib.Core.List.{List, [], _∷_, _++_}
 use Prim.Native.Nat.{ℕ}
 use lib.Dec.{eqb}
+use Rattle.answers.specs.Codes.{atomKind, listKind, numberKind, nothingKind}
 use Rattle.lists.specs.Lst.{Lst, nil, atom, list, len, reversed, joined}
 use Rattle.pool.specs.Script.{PFA, PFL, DECAP, ADV, BORROW, ERASE, INV, CINV, CONC, FIRST, LENGTH, Operation, among}
 
@@ -44,17 +45,17 @@ turn m o =
 
 -- kind and value: 0 and the first element where it is an atom, 1 and 0 where it is a list
 unfoldable pub firstOf : Lst → List ℕ
-firstOf nil = 3 ∷ 0 ∷ []
-firstOf (atom v l) = 0 ∷ v ∷ []
-firstOf (list e l) = 1 ∷ 0 ∷ []
+firstOf nil = nothingKind ∷ 0 ∷ []
+firstOf (atom v l) = atomKind ∷ v ∷ []
+firstOf (list e l) = listKind ∷ 0 ∷ []
 
 -- the two result words of an operation; n is the number of cells that ERASE frees
 unfoldable pub says : Lists → Operation → ℕ → List ℕ
 says m o n =
     cond (among (o .code) (DECAP ∷ ADV ∷ FIRST ∷ [])) (firstOf (m (o .a)))
-    (cond (eqb (o .code) ERASE) (2 ∷ n ∷ [])
-    (cond (eqb (o .code) LENGTH) (2 ∷ len (m (o .a)) ∷ [])
-    (3 ∷ 0 ∷ [])))
+    (cond (eqb (o .code) ERASE) (numberKind ∷ n ∷ [])
+    (cond (eqb (o .code) LENGTH) (numberKind ∷ len (m (o .a)) ∷ [])
+    (nothingKind ∷ 0 ∷ [])))
 
 -- a script
 

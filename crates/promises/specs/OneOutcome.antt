@@ -1,6 +1,6 @@
 -- An input has one outcome: a contract states that the answer, the number and every lent word are those of the definition,
--- so two outcomes that meet it are equal. And the rows of demand 1 fix the answer by themselves, whatever the engine.
-use mathlib.Core.Path.{_≡_, sym, ap, _∙_}
+-- so two outcomes that meet it are equal. And rows of answers fix the answer by themselves, whatever the engine.
+use mathlib.Core.Path.{_≡_, sym, _∙_}
 use mathlib.Core.Logic.{inl, inr}
 use mathlib.Core.List.{List, [], _∷_}
 use Prim.Native.Nat.{ℕ}
@@ -10,14 +10,9 @@ use Rattle.text.specs.Text.{verdict}
 use Rattle.calls.specs.SetUp.{setUpIn}
 use Rattle.calls.specs.Run.{ranIn}
 use Rattle.calls.specs.Read.{readingIn}
-use Rattle.calls.specs.Contracts.{SetsUp, Runs, Reads, wrote}
-use Rattle.calls.specs.Write.{Write, writingIn}
-use Rattle.promises.specs.Engine.{Engine}
+use Rattle.calls.specs.Contracts.{SetsUp, Runs, Reads, Writes}
+use Rattle.calls.specs.Write.{writingIn}
 use Rattle.promises.specs.Rows.{Row, Answers}
-use Rattle.promises.specs.Grounds.{setUpRows}
-use Rattle.promises.specs.TextGrounds.{readRows, writeRows, checkRows}
-use Rattle.promises.specs.Demand1.{Demand1}
-use Rattle.promises.specs.kept.Demand1Kept.{demand1}
 use Rattle.table.specs.declared.Form.{Form}
 
 -- setting up, by the contract of the code
@@ -30,16 +25,14 @@ pub one-run : (form : Form) → (ts ws ss rs : List ℕ) {r s : Outcome} {us vs 
 one-run form ts ws ss rs a b = (a .outcome ∙ sym (b .outcome), a .table ∙ sym (b .table), a .work ∙ sym (b .work), a .results ∙ sym (b .results))
 
 -- reading
-pub one-read : (form : Form) → (ts ws : List ℕ) (h : ℕ) (xs : List ℕ) {r s : Outcome} {us vs us′ vs′ : List ℕ} → Reads (readingIn form ts ws h xs) r us vs → Reads (readingIn form ts ws h xs) s us′ vs′
+pub one-read : (form : Form) → (ts ws : List ℕ) (h : ℕ) (xs : List ℕ) {r s : Outcome} {us vs us′ vs′ : List ℕ} → Reads r us vs (readingIn form ts ws h xs) → Reads s us′ vs′ (readingIn form ts ws h xs)
     → (r ≡ s) × (us ≡ us′) × (vs ≡ vs′)
-one-read form ts ws h xs a b = (a .answer ∙ sym (b .answer), a .table ∙ sym (b .table), a .work ∙ sym (b .work))
+one-read form ts ws h xs a b = (a .outcome ∙ sym (b .outcome), a .table ∙ sym (b .table), a .work ∙ sym (b .work))
 
 -- writing
-pub one-write : (form : Form) → (ts ws : List ℕ) (h : ℕ) (out : List ℕ) (r s : Outcome) (vs os vs′ os′ : List ℕ) → wrote r vs os ≡ writingIn form ts ws h out → wrote s vs′ os′ ≡ writingIn form ts ws h out
+pub one-write : (form : Form) → (ts ws : List ℕ) (h : ℕ) (out : List ℕ) {r s : Outcome} {vs os vs′ os′ : List ℕ} → Writes r vs os (writingIn form ts ws h out) → Writes s vs′ os′ (writingIn form ts ws h out)
     → (r ≡ s) × (vs ≡ vs′) × (os ≡ os′)
-one-write form ts ws h out r s vs os vs′ os′ a b =
-    let e : wrote r vs os ≡ wrote s vs′ os′ = a ∙ sym b in
-    (ap (λ (w : Write). outcome (w .answer) (w .count)) e, ap (λ (w : Write). w .work) e, ap (λ (w : Write). w .output) e)
+one-write form ts ws h out a b = (a .outcome ∙ sym (b .outcome), a .work ∙ sym (b .work), a .output ∙ sym (b .output))
 
 -- the text check
 pub one-check : (xs : List ℕ) {r s : Outcome} → r ≡ outcome (verdict xs .no) (verdict xs .taken) → s ≡ outcome (verdict xs .no) (verdict xs .taken) → r ≡ s
@@ -53,18 +46,3 @@ one-answer (r ∷ rs) n m (inl a) (inl b) = a .1 ∙ sym (b .1)
 one-answer (r ∷ rs) n m (inl a) (inr b) = absurd (b .0 (a .0))
 one-answer (r ∷ rs) n m (inr a) (inl b) = absurd (a .0 (b .0))
 one-answer (r ∷ rs) n m (inr a) (inr b) = one-answer rs n m (a .1) (b .1)
-
--- so every engine that keeps demand 1 answers as ours does
-pub record AnswersAsOurs (form : Form) (E : Engine) : Type 0 where
-  pub set-up : (ts : List ℕ) (n h : ℕ) → E .setUp ts n h .answer ≡ setUpIn form ts n h .answer
-  pub read : (ts ws : List ℕ) (h : ℕ) (xs : List ℕ) → E .read ts ws h xs .answer ≡ readingIn form ts ws h xs .answer
-  pub write : (ts ws : List ℕ) (h : ℕ) (out : List ℕ) → E .write ts ws h out .answer ≡ writingIn form ts ws h out .answer
-  pub check : (xs : List ℕ) → E .check xs .no ≡ verdict xs .no
-
-pub answers-as-ours : (form : Form) → (E : Engine) → Demand1 form E → AnswersAsOurs form E
-answers-as-ours form E d = record {
-  set-up = λ ts n h. one-answer (setUpRows form ts n h) _ _ (d .set-up-refusals ts n h) (demand1 form .set-up-refusals ts n h);
-  read = λ ts ws h xs. one-answer (readRows form ts ws h xs) _ _ (d .read-refusals ts ws h xs) (demand1 form .read-refusals ts ws h xs);
-  write = λ ts ws h out. one-answer (writeRows form ts ws h out) _ _ (d .write-refusals ts ws h out) (demand1 form .write-refusals ts ws h out);
-  check = λ xs. one-answer (checkRows xs) _ _ (d .check-refusals xs) (demand1 form .check-refusals xs);
-}

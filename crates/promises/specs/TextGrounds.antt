@@ -6,20 +6,24 @@ use mathlib.Core.Bool.{cond}
 use mathlib.Core.List.{List, [], _∷_, _++_}
 use Prim.Native.Nat.{ℕ, _+_, _-_, _*_, _%_, _≤_, _<_}
 use lib.ListN.{length, take}
-use Rattle.answers.specs.Answers.{TABLE-SIZE, WORK-SPACE, UNSOUND, HOLDER, OCCUPIED, NO-ROOM, TEXT-SIZE, END, NOT-A-LIST, ATOM, DEEP, OUTPUT}
+use Rattle.answers.specs.Answers.{UNSOUND, HOLDER, OCCUPIED, NO-ROOM, TEXT-SIZE, END, NOT-A-LIST, ATOM, DEEP, OUTPUT}
 use Rattle.lists.specs.Lst.{Lst, extent}
 use Rattle.pool.specs.Pool.{holder, ListAt, frees}
 use Rattle.text.specs.Limits.{levels, recordBytes, textMost, digitsMost, atomsEnd}
 use Rattle.text.specs.Marks.{listIn}
 use Rattle.text.specs.ListText.{textOf, isDigit}
 use Rattle.text.specs.Writing.{usable, depthAfter}
-use Rattle.calls.specs.Entry.{shown}
+use Rattle.calls.specs.Entry.{workWords, shown}
 use Rattle.promises.specs.Rows.{Row, row}
-use Rattle.promises.specs.Grounds.{BadTable, BadWork, Unsound, NoHolder}
+use Rattle.promises.specs.Grounds.{Unsound, NoHolder, entryRows}
 use Rattle.table.specs.declared.Form.{Form}
 
 abbrev pub BadText : List ℕ → Type 0
 BadText xs = (length xs % recordBytes ≢ 0) ⊎ (textMost < length xs)
+
+-- nothing to read
+abbrev pub AtEnd : List ℕ → Type 0
+AtEnd xs = length xs ≡ 0
 
 -- a number carried along characters
 unfoldable pub along : (ℕ → ℕ → ℕ) → ℕ → List ℕ → ℕ
@@ -100,7 +104,7 @@ abbrev pub faultRows : List ℕ → List Row
 faultRows xs = row NOT-A-LIST (Faulted xs NOT-A-LIST ⊎ RunsOut xs) ∷ row ATOM (Faulted xs ATOM) ∷ row DEEP (Faulted xs DEEP) ∷ []
 
 abbrev pub sizeRows : List ℕ → List Row
-sizeRows xs = row TEXT-SIZE (BadText xs) ∷ row END (length xs ≡ 0) ∷ []
+sizeRows xs = row TEXT-SIZE (BadText xs) ∷ row END (AtEnd xs) ∷ []
 
 abbrev pub checkRows : List ℕ → List Row
 checkRows xs = sizeRows xs ++ faultRows xs
@@ -109,14 +113,12 @@ checkRows xs = sizeRows xs ++ faultRows xs
 
 abbrev pub beforeReading : (form : Form) → List ℕ → List ℕ → ℕ → List ℕ → List Row
 beforeReading form ts ws h xs =
-    row TABLE-SIZE (BadTable form ts)
-    ∷ row WORK-SPACE (BadWork ts ws)
-    ∷ row HOLDER (NoHolder (shown form ts) h)
-    ∷ row TEXT-SIZE (BadText xs)
-    ∷ row END (length xs ≡ 0)
-    ∷ row UNSOUND (Unsound form ts)
+    entryRows workWords form ts ws
+    ++ (row HOLDER (NoHolder (shown form ts) h)
+    ∷ sizeRows xs
+    ++ (row UNSOUND (Unsound form ts)
     ∷ row OCCUPIED (holder (shown form ts) h ≢ 0)
-    ∷ faultRows xs
+    ∷ faultRows xs))
 
 abbrev pub readRows : (form : Form) → List ℕ → List ℕ → ℕ → List ℕ → List Row
 readRows form ts ws h xs = beforeReading form ts ws h xs ++ (row NO-ROOM (frees (shown form ts .cells) < extent (listIn xs)) ∷ [])
@@ -133,10 +135,9 @@ Has form ts h l = ListAt (shown form ts .cells) (holder (shown form ts) h) l
 
 abbrev pub writeRows : (form : Form) → List ℕ → List ℕ → ℕ → List ℕ → List Row
 writeRows form ts ws h out =
-    row TABLE-SIZE (BadTable form ts)
-    ∷ row WORK-SPACE (BadWork ts ws)
-    ∷ row HOLDER (NoHolder (shown form ts) h)
+    entryRows workWords form ts ws
+    ++ (row HOLDER (NoHolder (shown form ts) h)
     ∷ row UNSOUND (Unsound form ts)
     ∷ row DEEP ((l : Lst) × Has form ts h l × TooDeep (usable (length out)) (textOf l))
     ∷ row OUTPUT ((l : Lst) × Has form ts h l × (usable (length out) < length (textOf l)))
-    ∷ []
+    ∷ [])

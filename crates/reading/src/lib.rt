@@ -1,20 +1,20 @@
 // Reading a text into a holder: the tests in their order, and a change only when all are passed.
 ghost use mathlib.Core.Path.{_≡_};
-ghost use mathlib.Core.Bool.{not, _||_};
 ghost use mathlib.Core.List.{List};
-ghost use Prim.Native.Nat.{ℕ, _%_, _<_};
-ghost use lib.Dec.{eqb, ltb};
-ghost use Rattle.calls.specs.Entry.{used};
+ghost use Prim.Native.Nat.{ℕ, _<_};
+ghost use lib.ListN.{length};
+ghost use Rattle.answers.specs.Answers.{DONE};
+ghost use Rattle.calls.specs.Entry.{workWords, Provided, used};
 ghost use Rattle.calls.specs.Read.{readInto, readIn, readingIn};
 ghost use Rattle.pool.specs.Pool.{frees, Sound};
-ghost use Rattle.scan.specs.Outcomes.{Sized};
 ghost use Rattle.table.specs.declared.Form.the-variants.{Four};
 ghost use Rattle.table.specs.View.{holderCount, view, Table};
-ghost use Rattle.text.specs.Limits.{recordBytes, textMost};
+ghost use Rattle.text.specs.Text.{sizeFault};
 ghost use Rattle.calls.specs.Contracts.{Reads};
 use answers::Answer;
 use answers::Outcome;
-use scan::limits::Record;
+use entry::Entry;
+use entry::Work;
 use table::Form;
 use table::Shape;
 
@@ -28,8 +28,10 @@ fn into(s: Shape, t: &mut [u32], free: usize, h: usize, text: &[u8]) -> Outcome
     requires { ⌜ h < holderCount s ⌝ }
     requires { ⌜ Sound (view s (now t)) ⌝ }
     requires { ⌜ free ≡ frees (view s (now t) .cells) ⌝ }
-    requires { ⌜ Sized (now text) ⌝ }
-    ensures { λ r. ⌜ ((ws : List ℕ) → Reads (readInto (s .form) (now (t .entry)) ws h (now (text .entry))) r (now (t .exit)) (used (s .form) (now (t .entry)) ws)) ⌝ }
+    requires { ⌜ sizeFault (now text) ≡ DONE ⌝ }
+    ensures { λ r. ⌜
+        ((ws : List ℕ) → Reads r (now (t .exit)) (used (s .form) (now (t .entry)) ws)
+        (readInto (s .form) (now (t .entry)) ws h (now (text .entry)))) ⌝ }
 {
     if table::holder_of(s, t, h) != 0 {
         return Outcome::refused(Answer::OCCUPIED);
@@ -45,35 +47,20 @@ fn into(s: Shape, t: &mut [u32], free: usize, h: usize, text: &[u8]) -> Outcome
     Outcome::done(c.taken)
 }
 
-fn wrong_size(n: usize) -> bool
-    ensures { λ r. ⌜ r ≡ (not (eqb (n % recordBytes) 0) || ltb textMost n) ⌝ }
+// On a table that the call has entered.
+fn read_open(s: Shape, t: &mut [u32], w: &mut [u32], h: u32, text: &[u8]) -> Outcome
+    requires { ⌜ Provided workWords s (now t) (length (now w)) ⌝ }
+    ensures { λ r. ⌜
+        Reads r (now (t .exit)) (now (w .exit))
+        (readingIn (s .form) (now (t .entry)) (now (w .entry)) h (now (text .entry))) ⌝ }
 {
-    if n % Record::BYTES != 0 {
-        return true;
-    }
-    n > Record::TEXT
-}
-
-pub fn read_form(f: Form, t: &mut [u32], w: &mut [u32], h: u32, text: &[u8]) -> Outcome
-    ensures { λ r. ⌜ Reads (readingIn f (now (t .entry)) (now (w .entry)) h (now (text .entry))) r (now (t .exit)) (now (w .exit)) ⌝ }
-{
-    let s = table::shape_of(f, t);
-    let n = s.cells;
-    if n == 0 {
-        return Outcome::refused(Answer::TABLE_SIZE);
-    }
-    if w.len() < 2 * n {
-        return Outcome::refused(Answer::WORK_SPACE);
-    }
     let a = h as usize;
     if a >= s.holders() {
         return Outcome::refused(Answer::HOLDER);
     }
-    if wrong_size(text.len()) {
-        return Outcome::refused(Answer::TEXT_SIZE);
-    }
-    if text.len() == 0 {
-        return Outcome::refused(Answer::END);
+    let fault = scan::size_fault(text);
+    if fault != Answer::DONE {
+        return Outcome::refused(fault);
     }
     let found = sound::examine(s, t, w);
     if !found.sound {
@@ -82,9 +69,23 @@ pub fn read_form(f: Form, t: &mut [u32], w: &mut [u32], h: u32, text: &[u8]) -> 
     into(s, t, found.free, a, text)
 }
 
+pub fn read_form(f: Form, t: &mut [u32], w: &mut [u32], h: u32, text: &[u8]) -> Outcome
+    ensures { λ r. ⌜
+        Reads r (now (t .exit)) (now (w .exit))
+        (readingIn f (now (t .entry)) (now (w .entry)) h (now (text .entry))) ⌝ }
+{
+    let entry = entry::enter(f, t, w.len(), Work::WORDS);
+    match entry {
+        Entry::Refused(answer) => Outcome::refused(answer),
+        Entry::Open(s) => read_open(s, t, w, h, text),
+    }
+}
+
 // On a table with four words a cell.
 pub fn read(t: &mut [u32], w: &mut [u32], h: u32, text: &[u8]) -> Outcome
-    ensures { λ r. ⌜ Reads (readIn (now (t .entry)) (now (w .entry)) h (now (text .entry))) r (now (t .exit)) (now (w .exit)) ⌝ }
+    ensures { λ r. ⌜
+        Reads r (now (t .exit)) (now (w .exit))
+        (readIn (now (t .entry)) (now (w .entry)) h (now (text .entry))) ⌝ }
 {
     read_form(Form::Four, t, w, h, text)
 }

@@ -1,6 +1,7 @@
 -- The check and the rest: what scan says is the verdict where the size is right, and the rest begins behind the bytes taken or at the end.
 use Prim.Native.Nat.{ℕ, _-_, _≤_}
 use mathlib.Core.Path.{_≡_, refl, sym, ap, _∙_}
+use mathlib.Core.Logic.{_≢_}
 use mathlib.Core.List.{List}
 use native.Mathlib.Omega.{arith}
 use lib.ListN.{length, drop, take, length-drop}
@@ -9,9 +10,10 @@ use borrow.Author.Tests.{eq-eqb, ne-eqb}
 use Rattle.answers.specs.Answers.{outcome, refused, done}
 use Rattle.answers.specs.declared.Outcome.{Outcome}
 use Rattle.text.specs.Text as text
-use Rattle.text.specs.Text.{begin, State, at, taken, run, answer, scanned, verdict, restAt}
-use Rattle.text.specs.laws.Accepted.{right-size, taken-within}
-use Rattle.scan.specs.Outcomes.{Sized, scannedAs, answeredAs}
+use Rattle.text.specs.Text.{begin, State, at, taken, run, answer, scanned, sizeFault, verdict, restAt}
+use Rattle.text.specs.laws.Accepted.{taken-within}
+use Rattle.text.specs.laws.SizeLaws.{right-size, wrong-size}
+use Rattle.scan.specs.Outcomes.{scannedAs, answeredAs}
 use Rattle.scan.specs.declared.Scanned.{Scanned}
 
 -- a refusal takes no bytes
@@ -20,9 +22,13 @@ refused-none (at t n) h = refl
 refused-none (text.refused k) h = refl
 refused-none (taken n) h = absurd (h refl)
 
-module _ {s : List ℕ} {r : Scanned} (z : Sized s) (e : r ≡ scannedAs s) where
+-- a text whose size is wrong
+pub checked-size : (s : List ℕ) {n : ℕ} → n ≡ sizeFault s → n ≢ 0 → refused n ≡ answeredAs (verdict s)
+checked-size s e d = ap refused e ∙ ap answeredAs (sym (wrong-size s (λ z. d (e ∙ z))))
+
+module _ (s : List ℕ) {r : Scanned} (z : sizeFault s ≡ 0) (e : r ≡ scannedAs s) where
   sized : verdict s ≡ scanned s
-  sized = right-size s (z .some) (z .small) (z .whole)
+  sized = right-size s z
 
   no : r .answer ≡ (scanned s) .no
   no = ap (λ (x : Scanned). x .answer) e

@@ -1,25 +1,18 @@
 -- What scan and check say of a text, in terms of the definitions.
-use Prim.Native.Nat.{ℕ, _-_, _%_, _<_, _≤_}
-use mathlib.Core.Path.{_≡_}
+use Prim.Native.Nat.{ℕ, _-_}
 use mathlib.Core.List.{List}
 use mathlib.Core.Bool.{cond}
-use lib.ListN.{length}
 use lib.Dec.{eqb}
 use Rattle.answers.specs.Answers.{outcome}
 use Rattle.answers.specs.declared.Outcome.{Outcome}
 use Rattle.lists.specs.Lst.{extent}
-use Rattle.text.specs.Limits.{recordBytes, textMost}
 use Rattle.text.specs.Text as text
 use Rattle.text.specs.Text.{scanned}
 use Rattle.text.specs.Marks.{listIn}
+-- a text that the scan may be lent
+pub use Rattle.text.specs.laws.SizeLaws.{Sized}
 use Rattle.scan.specs.Places.{Outlook}
 use Rattle.scan.specs.declared.Scanned.{Scanned}
-
--- a text that the scan may be lent
-pub record Sized (s : List ℕ) : Type 0 where
-  pub some : 0 < length s
-  pub small : length s ≤ textMost
-  pub whole : length s % recordBytes ≡ 0
 
 abbrev pub refusedScan : ℕ → Scanned
 refusedScan k = record { answer = k; taken = 0; extent = 0 }

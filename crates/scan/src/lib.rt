@@ -3,7 +3,7 @@ ghost use mathlib.Core.Path.{_≡_};
 ghost use Prim.Native.Nat.{_+_, _≤_};
 ghost use lib.ListN.{length, drop};
 ghost use denote.Ref.{ptr};
-ghost use Rattle.text.specs.Text.{verdict, restAt};
+ghost use Rattle.text.specs.Text.{atEnd, sizeFault, verdict, restAt};
 ghost use Rattle.scan.specs.Outcomes.{scannedAs, answeredAs, refusedScan, doneScan, told, Sized};
 ghost use Rattle.scan.specs.Places.{outlook, overAt};
 use crate::limits::Record;
@@ -83,17 +83,35 @@ pub fn scan(text: &[u8]) -> Scanned
     Scanned::refused(Answer::NOT_A_LIST)
 }
 
+// Nothing to read.
+fn at_end(text: &[u8]) -> bool
+    ensures { λ r. ⌜ r ≡ atEnd (now (text .entry)) ⌝ }
+{
+    text.len() == 0
+}
+
+// What is wrong with a text before it is read as a list: TEXT SIZE or END, else DONE.
+pub fn size_fault(text: &[u8]) -> u32
+    ensures { λ r. ⌜ r ≡ sizeFault (now (text .entry)) ⌝ }
+{
+    if text.len() % Record::BYTES != 0 {
+        return Answer::TEXT_SIZE;
+    }
+    if text.len() > Record::TEXT {
+        return Answer::TEXT_SIZE;
+    }
+    if at_end(text) {
+        return Answer::END;
+    }
+    Answer::DONE
+}
+
 pub fn check(text: &[u8]) -> Outcome
     ensures { λ r. ⌜ r ≡ answeredAs (verdict (now (text .entry))) ⌝ }
 {
-    if text.len() % Record::BYTES != 0 {
-        return Outcome::refused(Answer::TEXT_SIZE);
-    }
-    if text.len() > Record::TEXT {
-        return Outcome::refused(Answer::TEXT_SIZE);
-    }
-    if text.len() == 0 {
-        return Outcome::refused(Answer::END);
+    let fault = size_fault(text);
+    if fault != Answer::DONE {
+        return Outcome::refused(fault);
     }
     let s = scan(text);
     if s.answer == Answer::DONE {

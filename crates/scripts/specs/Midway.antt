@@ -3,6 +3,7 @@ use mathlib.Core.Path.{_≡_}
 use mathlib.Core.List.{List, _++_}
 use Prim.Native.Nat.{ℕ, _+_, _*_}
 use lib.ListN.{length, getD, set, take, drop}
+use Rattle.answers.specs.Codes.{operationWords, resultWords}
 use Rattle.calls.specs.Run.{operations}
 use Rattle.ops.specs.Replies.{operation}
 use Rattle.pool.specs.Pool.{Pool, Sound}
@@ -12,15 +13,15 @@ use Rattle.table.specs.declared.Shape.{Shape}
 
 -- operation i of a script
 abbrev pub operationAt : List ℕ → ℕ → Operation
-operationAt ss i = operation (getD ss (4 * i) 0) (getD ss (4 * i + 1) 0) (getD ss (4 * i + 2) 0) (getD ss (4 * i + 3) 0)
+operationAt ss i = operation (getD ss (operationWords * i) 0) (getD ss (operationWords * i + 1) 0) (getD ss (operationWords * i + 2) 0) (getD ss (operationWords * i + 3) 0)
 
 -- the result words of operation i
 abbrev pub written : List ℕ → ℕ → ℕ → ℕ → List ℕ
-written rs i k w = set (set rs (2 * i) k) (2 * i + 1) w
+written rs i k w = set (set rs (resultWords * i) k) (resultWords * i + 1) w
 
 -- the run of what is left of a script after i operations
 unfoldable pub left : List ℕ → ℕ → Pool → Run
-left ss i p = performed p (operations (drop (4 * i) ss))
+left ss i p = performed p (operations (drop (operationWords * i) ss))
 
 -- the whole of a run of which i operations are done and their results written
 abbrev pub resumed : ℕ → List ℕ → Run → Run
@@ -30,6 +31,6 @@ resumed i us r = record { pool = r .pool; answer = r .answer; done = i + r .done
 pub record Midway (s : Shape) (ss rs₀ : List ℕ) (q : Run) (ts rs : List ℕ) (i : ℕ) : Type 0 where
   pub table : Table s ts
   pub sound : Sound (view s ts)
-  pub whole : q ≡ resumed i (take (2 * i) rs) (left ss i (view s ts))
+  pub whole : q ≡ resumed i (take (resultWords * i) rs) (left ss i (view s ts))
   pub size : length rs ≡ length rs₀
-  pub rest : drop (2 * i) rs ≡ drop (2 * i) rs₀
+  pub rest : drop (resultWords * i) rs ≡ drop (resultWords * i) rs₀

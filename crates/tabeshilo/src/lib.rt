@@ -1,7 +1,7 @@
 // The C boundary: the calls that C links, each one line over the crate that does it. The header is include/tabeshilo.h.
 ghost use mathlib.Core.Path.{_≡_};
 ghost use Rattle.answers.specs.Answers.{outcome};
-ghost use Rattle.calls.specs.Contracts.{SetsUp, Runs, Reads, wrote};
+ghost use Rattle.calls.specs.Contracts.{SetsUp, Runs, Reads, Writes};
 ghost use Rattle.calls.specs.Run.{ran};
 ghost use Rattle.calls.specs.Read.{readIn};
 ghost use Rattle.calls.specs.Write.{writeOut};
@@ -35,7 +35,9 @@ pub extern "C" fn tab_run(
     script: &[u32],
     results: &mut [u32],
 ) -> Outcome
-    ensures { λ r. ⌜ Runs r (now (table .exit)) (now (work .exit)) (now (results .exit)) (ran (now (table .entry)) (now (work .entry)) (now (script .entry)) (now (results .entry))) ⌝ }
+    ensures { λ r. ⌜
+        Runs r (now (table .exit)) (now (work .exit)) (now (results .exit))
+        (ran (now (table .entry)) (now (work .entry)) (now (script .entry)) (now (results .entry))) ⌝ }
 {
     scripts::run(table, work, script, results)
 }
@@ -43,7 +45,9 @@ pub extern "C" fn tab_run(
 // count: bytes taken
 #[no_mangle]
 pub extern "C" fn tab_read(table: &mut [u32], work: &mut [u32], holder: u32, text: &[u8]) -> Outcome
-    ensures { λ r. ⌜ Reads (readIn (now (table .entry)) (now (work .entry)) holder (now (text .entry))) r (now (table .exit)) (now (work .exit)) ⌝ }
+    ensures { λ r. ⌜
+        Reads r (now (table .exit)) (now (work .exit))
+        (readIn (now (table .entry)) (now (work .entry)) holder (now (text .entry))) ⌝ }
 {
     reading::read(table, work, holder, text)
 }
@@ -51,7 +55,9 @@ pub extern "C" fn tab_read(table: &mut [u32], work: &mut [u32], holder: u32, tex
 // count: bytes written
 #[no_mangle]
 pub extern "C" fn tab_write(table: &[u32], work: &mut [u32], holder: u32, out: &mut [u8]) -> Outcome
-    ensures { λ r. ⌜ wrote r (now (work .exit)) (now (out .exit)) ≡ writeOut (now (table .entry)) (now (work .entry)) holder (now (out .entry)) ⌝ }
+    ensures { λ r. ⌜
+        Writes r (now (work .exit)) (now (out .exit))
+        (writeOut (now (table .entry)) (now (work .entry)) holder (now (out .entry))) ⌝ }
 {
     writing::write(table, work, holder, out)
 }

@@ -3,10 +3,10 @@
 -- earliest fault wins.
 use Prim.Native.Nat.{ℕ, _+_, _-_, _*_, _%_}
 use mathlib.Core.List.{List, [], _∷_}
-use mathlib.Core.Bool.{Bool, true, false, cond}
+use mathlib.Core.Bool.{Bool, true, false, cond, not, _||_}
 use lib.ListN.{length}
 use lib.Dec.{eqb, leb, ltb}
-use Rattle.answers.specs.Answers.{DONE, TEXT-SIZE, END, NOT-A-LIST, ATOM, DEEP}
+use Rattle.answers.specs.Answers.{DONE, TEXT-SIZE, END, NOT-A-LIST, ATOM, DEEP, unless}
 use Rattle.text.specs.Limits.{levels, recordBytes, textMost, digitsMost, atomsEnd}
 
 -- where a scan stands: before the first "(", behind a "(", behind a ",", inside an atom, behind an element, behind the
@@ -166,14 +166,21 @@ answer (taken n) = done n
 unfoldable pub scanned : List ℕ → Answer
 scanned s = answer (run (at begin 0) s)
 
+-- TEXT SIZE: not a multiple of a record, or too many bytes
+abbrev pub badText : List ℕ → Bool
+badText s = not (eqb (length s % recordBytes) 0) || ltb textMost (length s)
+
+-- END: nothing to read
+abbrev pub atEnd : List ℕ → Bool
+atEnd s = eqb (length s) 0
+
+-- what is wrong before the text is read as a list
+unfoldable pub sizeFault : List ℕ → ℕ
+sizeFault s = cond (badText s) TEXT-SIZE (cond (atEnd s) END DONE)
+
 -- what the text check answers
 unfoldable pub verdict : List ℕ → Answer
-verdict s =
-    cond (eqb (length s % recordBytes) 0)
-    (cond (leb (length s) textMost)
-    (cond (eqb (length s) 0) (refusal END) (scanned s))
-    (refusal TEXT-SIZE))
-    (refusal TEXT-SIZE)
+verdict s = unless (sizeFault s) refusal (scanned s)
 
 -- where the records after the first list begin: the end where the check refuses
 abbrev pub restAt : List ℕ → ℕ

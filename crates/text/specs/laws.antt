@@ -1,3 +1,4 @@
+pub mod SizeLaws
 pub mod TextLaws
 pub mod MarkLaws
 pub mod RoundTrip

@@ -10,10 +10,13 @@ ghost use Rattle.table.specs.View.{view, Table};
 ghost use Rattle.text.specs.Limits.{textMost};
 ghost use Rattle.text.specs.Writing.{usable};
 ghost use Rattle.writing.specs.Measures.{listAt, Stands};
-ghost use Rattle.calls.specs.Contracts.{wrote};
+ghost use Rattle.calls.specs.Contracts.{Writes};
+ghost use Rattle.calls.specs.Entry.{workWords, Provided};
 ghost use Rattle.writing.specs.RecordEnd.{recordEnd};
 use answers::Answer;
 use answers::Outcome;
+use entry::Entry;
+use entry::Work;
 use scan::limits::Record;
 use table::Form;
 use table::Shape;
@@ -43,7 +46,8 @@ fn record_end(n: usize) -> usize
 // Blanks.
 fn fill(out: &mut [u8], from: usize, to: usize)
     requires { ⌜ (from ≤ to) × (to ≤ length (now out)) ⌝ }
-    ensures { λ r. ⌜ now (out .exit) ≡ paste (now (out .entry)) from (replicate (to - from) 32) (to - from) ⌝ }
+    ensures { λ r. ⌜
+        now (out .exit) ≡ paste (now (out .entry)) from (replicate (to - from) 32) (to - from) ⌝ }
 {
     let mut i = from;
     while i < to {
@@ -56,7 +60,9 @@ fn fill(out: &mut [u8], from: usize, to: usize)
 fn write_list(s: Shape, t: &[u32], x: usize, out: &mut [u8]) -> Outcome
     requires { ⌜ Table s (now t) ⌝ }
     requires { ⌜ Stands (view s (now t) .cells) x ⌝ }
-    ensures { λ r. ⌜ ((ws : List ℕ) → wrote r ws (now (out .exit)) ≡ writeList (listAt (view s (now (t .entry)) .cells) x) ws (now (out .entry))) ⌝ }
+    ensures { λ r. ⌜
+        ((ws : List ℕ) → Writes r ws (now (out .exit))
+        (writeList (listAt (view s (now (t .entry)) .cells) x) ws (now (out .entry)))) ⌝ }
 {
     let m = walk::measure(s, t, x, usable(out.len()));
     if m.answer != Answer::DONE {
@@ -68,18 +74,13 @@ fn write_list(s: Shape, t: &[u32], x: usize, out: &mut [u8]) -> Outcome
     Outcome::done(end as u32)
 }
 
-// Every refusal comes before a byte is written: first 1, 2, 7 and 5, then 17 or 18, whichever is met first.
-pub fn write_form(f: Form, table: &[u32], work: &mut [u32], h: u32, out: &mut [u8]) -> Outcome
-    ensures { λ r. ⌜ wrote r (now (work .exit)) (now (out .exit)) ≡ writingIn f (now (table .entry)) (now (work .entry)) h (now (out .entry)) ⌝ }
+// On a table that the call has entered.
+fn write_open(s: Shape, table: &[u32], work: &mut [u32], h: u32, out: &mut [u8]) -> Outcome
+    requires { ⌜ Provided workWords s (now table) (length (now work)) ⌝ }
+    ensures { λ r. ⌜
+        Writes r (now (work .exit)) (now (out .exit))
+        (writingIn (s .form) (now (table .entry)) (now (work .entry)) h (now (out .entry))) ⌝ }
 {
-    let s = table::shape_of(f, table);
-    let n = s.cells;
-    if n == 0 {
-        return Outcome::refused(Answer::TABLE_SIZE);
-    }
-    if work.len() < 2 * n {
-        return Outcome::refused(Answer::WORK_SPACE);
-    }
     if h as usize >= s.holders() {
         return Outcome::refused(Answer::HOLDER);
     }
@@ -90,9 +91,24 @@ pub fn write_form(f: Form, table: &[u32], work: &mut [u32], h: u32, out: &mut [u
     write_list(s, table, x, out)
 }
 
+// Every refusal comes before a byte is written: first 1, 2, 7 and 5, then 17 or 18, whichever is met first.
+pub fn write_form(f: Form, table: &[u32], work: &mut [u32], h: u32, out: &mut [u8]) -> Outcome
+    ensures { λ r. ⌜
+        Writes r (now (work .exit)) (now (out .exit))
+        (writingIn f (now (table .entry)) (now (work .entry)) h (now (out .entry))) ⌝ }
+{
+    let entry = entry::enter(f, table, work.len(), Work::WORDS);
+    match entry {
+        Entry::Refused(answer) => Outcome::refused(answer),
+        Entry::Open(s) => write_open(s, table, work, h, out),
+    }
+}
+
 // On a table with four words a cell.
 pub fn write(table: &[u32], work: &mut [u32], h: u32, out: &mut [u8]) -> Outcome
-    ensures { λ r. ⌜ wrote r (now (work .exit)) (now (out .exit)) ≡ writeOut (now (table .entry)) (now (work .entry)) h (now (out .entry)) ⌝ }
+    ensures { λ r. ⌜
+        Writes r (now (work .exit)) (now (out .exit))
+        (writeOut (now (table .entry)) (now (work .entry)) h (now (out .entry))) ⌝ }
 {
     write_form(Form::Four, table, work, h, out)
 }

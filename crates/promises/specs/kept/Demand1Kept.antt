@@ -3,12 +3,14 @@ use mathlib.Core.Path.{_≡_, refl, sym, ap, _∙_, subst}
 use mathlib.Core.Logic.{_≢_, _⊎_, inl, inr}
 use mathlib.Core.Bool.{Bool, true, false, cond, not}
 use mathlib.Core.List.{List, [], _∷_, _++_}
-use Prim.Native.Nat.{ℕ, suc, _*_, _<_}
+use Prim.Native.Nat.{ℕ, suc, _≤_, _<_}
 use native.Mathlib.Omega.{arith}
 use lib.Dec.{eqb, ltb}
-use lib.ListN.{length, drop}
-use borrow.Author.Tests.{eqb-true, eqb-false, ne-eqb, eq-eqb}
-use Rattle.answers.specs.Answers.{DONE, TABLE-SIZE, WORK-SPACE, SCRIPT, RESULTS, UNSOUND, HOLDER, OCCUPIED, NO-ROOM, TEXT-SIZE, END, DEEP, OUTPUT}
+use lib.ListN.{length, drop, replicate}
+use borrow.Author.Tests.{eqb-true, eqb-false, le-ltb}
+use Rattle.answers.specs.Answers.{DONE, RESULTS, UNSOUND, HOLDER, OCCUPIED, NO-ROOM, DEEP, OUTPUT, unless}
+use Rattle.answers.specs.Codes.{resultWords}
+use Rattle.answers.specs.laws.Unless.{both-ways}
 use Rattle.lists.specs.Lst.{Lst, extent}
 use Rattle.pool.specs.Pool.{Pool, holder, frees, Sound}
 use Rattle.pool.specs.laws.PoolLaws.{ListAt-unique}
@@ -19,26 +21,28 @@ use Rattle.pool.specs.laws.ByCode.{either-way}
 use Rattle.pool.specs.laws.Lengths.{effect-alike}
 use Rattle.pool.specs.laws.ScriptLaws.{allowed, effect-sound}
 use Rattle.text.specs.Marks.{listIn}
-use Rattle.text.specs.Text.{Answer, verdict, scanned}
+use Rattle.text.specs.Text.{Answer, sizeFault, verdict, scanned}
+use Rattle.text.specs.laws.SizeLaws.{right-size}
 use Rattle.text.specs.ListText.{textOf}
 use Rattle.text.specs.Writing.{usable}
 use Rattle.calls.specs.SetUp.{Given}
-use Rattle.calls.specs.Entry.{badTable, badWork, noHolder, shown, unsound, stored, used, over}
-use Rattle.calls.specs.Run.{Ran, operations, badScript, badResults, notRun, ranTo, ranIn}
-use Rattle.calls.specs.Read.{Read as Reading, badText, notRead, readingIn}
+use Rattle.calls.specs.Entry.{workWords, entryFault, noHolder, shown, unsound, stored, used, over}
+use Rattle.calls.specs.laws.EntryLaws.{entry-alike}
+use Rattle.calls.specs.Run.{Ran, operations, scriptFault, notRun, ranTo, ranIn}
+use Rattle.calls.specs.Read.{Read as Reading, notRead, readingIn}
 use Rattle.calls.specs.Write.{Write, notWritten, writeList, writingIn}
 use Rattle.promises.specs.Engine.{ours}
-use Rattle.promises.specs.Rows.{First, Answers}
-use Rattle.promises.specs.Grounds.{setUpRows, runRows, operationRows}
-use Rattle.promises.specs.TextGrounds.{readRows, faultRows, writeRows, Has, TooDeep}
+use Rattle.promises.specs.Rows.{Row, row, Answers}
+use Rattle.promises.specs.Grounds.{Unsound, setUpRows, entryRows, scriptRows, operationRows}
+use Rattle.promises.specs.TextGrounds.{readRows, sizeRows, faultRows, writeRows, Has, TooDeep}
 use Rattle.promises.specs.Demand1.{wordsOf, alone, Stops, end, refused, done, Demand1, SetUpRefusals, RunRefusals, ReadRefusals, WriteRefusals, ScriptsStop, RefusedRun}
-use Rattle.promises.specs.laws.Tells.{tells-eq, tells-lt, tells-not, first, rows-before}
-use Rattle.promises.specs.laws.TestsTell.{tells-size, tells-table, tells-work, tells-script, tells-results, tells-unsound, tells-holder, tells-text}
+use Rattle.promises.specs.laws.Tells.{tells-eq, tells-lt, tells-not, first, unless-first}
+use Rattle.promises.specs.laws.TestsTell.{tells-size, entry-answers, entry-each, script-answers, script-each, size-answers, size-each, tells-unsound, tells-holder}
 use Rattle.promises.specs.laws.OperationRows.{operation-answers}
-use Rattle.promises.specs.laws.TextRows.{scan-answers, verdict-is, check-answers, check-refused}
+use Rattle.promises.specs.laws.TextRows.{scan-answers, check-answers, check-refused}
 use Rattle.promises.specs.laws.WriteRows.{judged-answers}
-use Rattle.promises.specs.laws.Tables.{Good, good, stores, stored-good, stored-same, good-table, good-sound}
-use Rattle.promises.specs.laws.RunLaws.{Passed, passed-good, passes, passed-none, runs, run-ways}
+use Rattle.promises.specs.laws.Tables.{Good, entered-good, stores, stored-good, stored-same, good-sound}
+use Rattle.promises.specs.laws.RunLaws.{Passed, passed-good, passes, passed-none, whole, runs, run-ways}
 use Rattle.promises.specs.laws.ScriptDoes.{one-done}
 use Rattle.promises.specs.laws.ReadLaws.{filledIn, read-ways}
 use Rattle.promises.specs.laws.WriteLaws.{listOf-is, write-ways, judgement}
@@ -57,14 +61,24 @@ of-run r = r .answer
 run-rows : (form : Form) → RunRefusals form (ours form)
 unfolding ranIn
 run-rows form ts ws ss rs =
-    first of-run (later 1) (badTable form ts) (notRun TABLE-SIZE ts ws rs) _ (tells-table form ts) refl (λ e.
-    first of-run (later 2) (badWork form ts ws) (notRun WORK-SPACE ts ws rs) _ (tells-work form ts ws e) refl (λ _.
-    first of-run (later 3) (badScript ss) (notRun SCRIPT ts ws rs) _ (tells-script ss) refl (λ _.
-    first of-run (later 4) (badResults ss rs) (notRun RESULTS ts ws rs) _ (tells-results ss rs) refl (λ _.
-    first of-run (later 5) (unsound form ts) (notRun UNSOUND ts (used form ts ws) rs) _ (tells-unsound form ts) refl (λ _. tt)))))
+    unless-first (entryRows workWords form ts ws) (scriptRows ss rs ++ last) (entryFault workWords form ts (length ws)) (entry-each workWords form ts ws) (entry-answers workWords form ts ws) of-run any refuse sizing (λ _. refl) (λ _.
+    unless-first (scriptRows ss rs) last (scriptFault ss rs) (script-each ss rs) (script-answers ss rs) of-run any refuse sounding (λ _. refl) (λ _.
+    first of-run any (unsound form ts) (notRun UNSOUND ts (used form ts ws) rs) (whole form ts ws ss rs) (tells-unsound form ts) refl (λ _. tt)))
   where
-    later : ℕ → ℕ → Type 0
-    later k = First (drop k (runRows form ts ws ss rs)) (λ n. Unit {0})
+    any : ℕ → Type 0
+    any n = Unit {0}
+
+    last : List Row
+    last = row UNSOUND (Unsound form ts) ∷ []
+
+    refuse : ℕ → Ran
+    refuse n = notRun n ts ws rs
+
+    sounding : Ran
+    sounding = cond (unsound form ts) (notRun UNSOUND ts (used form ts ws) rs) (whole form ts ws ss rs)
+
+    sizing : Ran
+    sizing = unless (scriptFault ss rs) refuse sounding
 
 abbrev of-read : Reading → ℕ
 of-read r = r .answer
@@ -72,31 +86,50 @@ of-read r = r .answer
 read-rows : (form : Form) → ReadRefusals form (ours form)
 unfolding readingIn
 read-rows form ts ws h xs =
-    first of-read (later 1) (badTable form ts) (notRead TABLE-SIZE ts ws) _ (tells-table form ts) refl (λ e.
-    first of-read (later 2) (badWork form ts ws) (notRead WORK-SPACE ts ws) _ (tells-work form ts ws e) refl (λ _.
-    first of-read (later 3) (noHolder form ts h) (notRead HOLDER ts ws) _ (tells-holder form ts h) refl (λ _.
-    first of-read (later 4) (badText xs) (notRead TEXT-SIZE ts ws) _ (tells-text xs) refl (λ s.
-    first of-read (later 5) (eqb (length xs) 0) (notRead END ts ws) _ (tells-eq (length xs) 0) refl (λ z.
-    first of-read (later 6) (unsound form ts) (notRead UNSOUND ts (used form ts ws)) _ (tells-unsound form ts) refl (λ _.
-    first of-read (later 7) (not (eqb (holder (shown form ts) h) 0)) (notRead OCCUPIED ts (used form ts ws)) _ (tells-not (eqb (holder (shown form ts) h) 0) (tells-eq (holder (shown form ts) h) 0)) refl (λ _.
-    text (verdict-is xs ∙ rw (s, z)))))))))
+    unless-first (entryRows workWords form ts ws) (rows 2) (entryFault workWords form ts (length ws)) (entry-each workWords form ts ws) (entry-answers workWords form ts ws) of-read done? refuse holding (λ _. refl) (λ _.
+    first of-read (later 3) (noHolder form ts h) (notRead HOLDER ts ws) sizing (tells-holder form ts h) refl (λ _.
+    unless-first (sizeRows xs) (rows 5) (sizeFault xs) (size-each xs) (size-answers xs) of-read done? refuse sounding (λ _. refl) (λ s.
+    first of-read (later 6) (unsound form ts) (notRead UNSOUND ts (used form ts ws)) filling (tells-unsound form ts) refl (λ _.
+    first of-read (later 7) (not (eqb (holder (shown form ts) h) 0)) (notRead OCCUPIED ts (used form ts ws)) judging (tells-not (eqb (holder (shown form ts) h) 0) (tells-eq (holder (shown form ts) h) 0)) refl (λ _.
+    unless-first (faultRows xs) (rows 10) (verdict xs .no) ((λ z. omega arith), ((λ z. omega arith), ((λ z. omega arith), tt))) (faults (right-size xs s)) of-read done? refuseUsed fitting (λ _. refl) (λ _.
+    first of-read done? (ltb (frees (shown form ts .cells)) (extent (listIn xs))) (notRead NO-ROOM ts (used form ts ws)) (filledIn form ts ws h xs) (tells-lt (frees (shown form ts .cells)) (extent (listIn xs))) refl (λ _. refl)))))))
   where
+    done? : ℕ → Type 0
+    done? m = m ≡ DONE
+
+    rows : ℕ → List Row
+    rows k = drop k (readRows form ts ws h xs)
+
     later : ℕ → ℕ → Type 0
-    later k = Answers (drop k (readRows form ts ws h xs))
+    later k = Answers (rows k)
 
-    room : Reading
-    room = cond (ltb (frees (shown form ts .cells)) (extent (listIn xs))) (notRead NO-ROOM ts (used form ts ws)) (filledIn form ts ws h xs)
+    refuse : ℕ → Reading
+    refuse n = notRead n ts ws
 
-    judge : Reading
-    judge = cond (not (eqb (verdict xs .no) DONE)) (notRead (verdict xs .no) ts (used form ts ws)) room
+    refuseUsed : ℕ → Reading
+    refuseUsed n = notRead n ts (used form ts ws)
 
-    text : verdict xs ≡ scanned xs → later 7 (judge .answer)
-    text e = rows-before (faultRows xs) (drop 10 (readRows form ts ws h xs)) (λ m. m ≡ DONE) (verdict xs .no) (judge .answer)
-        ((λ z. omega arith), ((λ z. omega arith), ((λ z. omega arith), tt)))
-        (subst (λ (r : Answer). Answers (faultRows xs) (r .no)) (sym e) (scan-answers xs))
-        (λ n. rw (ne-eqb (verdict xs .no) DONE n))
-        (λ z. subst (λ (b : Bool). later 10 (cond (not b) (notRead (verdict xs .no) ts (used form ts ws)) room .answer)) (sym (eq-eqb (verdict xs .no) DONE z))
-        (first of-read (λ m. m ≡ DONE) (ltb (frees (shown form ts .cells)) (extent (listIn xs))) (notRead NO-ROOM ts (used form ts ws)) (filledIn form ts ws h xs) (tells-lt (frees (shown form ts .cells)) (extent (listIn xs))) refl (λ _. refl)))
+    -- what is left of the call, test by test from the last
+    fitting : Reading
+    fitting = cond (ltb (frees (shown form ts .cells)) (extent (listIn xs))) (notRead NO-ROOM ts (used form ts ws)) (filledIn form ts ws h xs)
+
+    judging : Reading
+    judging = unless (verdict xs .no) refuseUsed fitting
+
+    filling : Reading
+    filling = cond (not (eqb (holder (shown form ts) h) 0)) (notRead OCCUPIED ts (used form ts ws)) judging
+
+    sounding : Reading
+    sounding = cond (unsound form ts) (notRead UNSOUND ts (used form ts ws)) filling
+
+    sizing : Reading
+    sizing = unless (sizeFault xs) refuse sounding
+
+    holding : Reading
+    holding = cond (noHolder form ts h) (notRead HOLDER ts ws) sizing
+
+    faults : verdict xs ≡ scanned xs → Answers (faultRows xs) (verdict xs .no)
+    faults e = subst (λ (r : Answer). Answers (faultRows xs) (r .no)) (sym e) (scan-answers xs)
 
 abbrev of-write : Write → ℕ
 of-write r = r .answer
@@ -104,28 +137,29 @@ of-write r = r .answer
 write-rows : (form : Form) → WriteRefusals form (ours form)
 unfolding writingIn
 write-rows form ts ws h out =
-    first of-write (later 1) (badTable form ts) (notWritten TABLE-SIZE ws out) _ (tells-table form ts) refl (λ e.
-    first of-write (later 2) (badWork form ts ws) (notWritten WORK-SPACE ws out) _ (tells-work form ts ws e) refl (λ _.
-    first of-write (later 3) (noHolder form ts h) (notWritten HOLDER ws out) _ (tells-holder form ts h) refl (λ _.
-    first of-write (later 4) (unsound form ts) (notWritten UNSOUND (used form ts ws) out) _ (tells-unsound form ts) refl (λ u. text (good form ts e u .sound)))))
+    unless-first (entryRows workWords form ts ws) (drop 2 (writeRows form ts ws h out)) (entryFault workWords form ts (length ws)) (entry-each workWords form ts ws) (entry-answers workWords form ts ws) of-write (λ m. m ≡ DONE) (λ (n : ℕ). notWritten n ws out) holding (λ _. refl) (λ e.
+    first of-write (later 3) (noHolder form ts h) (notWritten HOLDER ws out) sounding (tells-holder form ts h) refl (λ _.
+    first of-write (later 4) (unsound form ts) (notWritten UNSOUND (used form ts ws) out) (writeList (listOf (shown form ts) h) (used form ts ws) out) (tells-unsound form ts) refl (λ u. text (entered-good form ts ws e u .sound))))
   where
     later : ℕ → ℕ → Type 0
     later k = Answers (drop k (writeRows form ts ws h out))
 
+    sounding : Write
+    sounding = cond (unsound form ts) (notWritten UNSOUND (used form ts ws) out) (writeList (listOf (shown form ts) h) (used form ts ws) out)
+
+    holding : Write
+    holding = cond (noHolder form ts h) (notWritten HOLDER ws out) sounding
+
     -- the answer is the judgement, whatever it is
-    answered : (n : ℕ) (y z : Write) → y .answer ≡ DONE → z .answer ≡ n → cond (eqb n DONE) y z .answer ≡ n
-    answered n y z ey ez = go (eqb n DONE) refl
-      where
-        go : (b : Bool) → eqb n DONE ≡ b → cond b y z .answer ≡ n
-        go true e = ey ∙ sym (eqb-true n DONE e)
-        go false e = ez
+    answered : (n : ℕ) (y : Write) → y .answer ≡ DONE → unless n (λ (m : ℕ). notWritten m (used form ts ws) out) y .answer ≡ n
+    answered n y e = both-ways n (λ (m : ℕ). notWritten m (used form ts ws) out) y (λ (w : Write). w .answer ≡ n) (λ d. refl) (λ z. e ∙ sym z)
 
     text : Sound (shown form ts) → later 4 (writeList (listOf (shown form ts) h) (used form ts ws) out .answer)
     text s =
         let (l, w) = denoted (shown form ts) s h in
         let e : listOf (shown form ts) h ≡ l = listOf-is (shown form ts) h l s w in
         subst (λ (k : Lst). later 4 (writeList k (used form ts ws) out .answer)) (sym e)
-        (subst (later 4) (sym (answered (judgement l out) _ (notWritten (judgement l out) (used form ts ws) out) refl refl)) (rows l w (judged-answers (usable (length out)) (textOf l))))
+        (subst (later 4) (sym (answered (judgement l out) _ refl)) (rows l w (judged-answers (usable (length out)) (textOf l))))
       where
         rows : (l : Lst) → Has form ts h l
             → (TooDeep (usable (length out)) (textOf l) × (judgement l out ≡ DEEP)) ⊎ ((TooDeep (usable (length out)) (textOf l) → ⊥) × (((usable (length out) < length (textOf l)) × (judgement l out ≡ OUTPUT)) ⊎ ((usable (length out) < length (textOf l) → ⊥) × (judgement l out ≡ DONE))))
@@ -143,17 +177,22 @@ write-rows form ts ws h out =
 -- a script
 
 abbrev zeros : List ℕ
-zeros = 0 ∷ 0 ∷ []
+zeros = replicate resultWords 0
 
-pub one-passes : (form : Form) → (ts ws : List ℕ) (o : Operation) → Good form ts → badWork form ts ws ≡ false → Passed form ts ws (wordsOf o) zeros
-one-passes form ts ws o g w = record { table = good-table form ts g; work = w; script = refl; results = refl; sound = good-sound form ts g }
+-- a script of one operation
+pub one-fits : (o : Operation) (rs : List ℕ) → resultWords ≤ length rs → scriptFault (wordsOf o) rs ≡ DONE
+unfolding scriptFault
+one-fits o rs l = ap (λ (b : Bool). cond b RESULTS DONE) (le-ltb (length rs) resultWords l)
 
-one-done-run : (form : Form) → (ts ws : List ℕ) (o : Operation) → Good form ts → badWork form ts ws ≡ false → refusal (shown form ts) o ≡ DONE
+pub one-passes : (form : Form) → (ts ws : List ℕ) (o : Operation) → Good form ts → entryFault workWords form ts (length ws) ≡ DONE → Passed form ts ws (wordsOf o) zeros
+one-passes form ts ws o g w = record { entry = w; script = one-fits o zeros (omega arith); sound = good-sound form ts g }
+
+one-done-run : (form : Form) → (ts ws : List ℕ) (o : Operation) → Good form ts → entryFault workWords form ts (length ws) ≡ DONE → refusal (shown form ts) o ≡ DONE
     → alone (ours form) ws ts o ≡ ranTo form (goesOn (effect (shown form ts) o) (stops (effect (shown form ts) o .pool) DONE)) ts ws zeros
 unfolding operations
 one-done-run form ts ws o g w e = runs form ts ws (wordsOf o) zeros (one-passes form ts ws o g w) ∙ ap (λ (r : Run). ranTo form r ts ws zeros) (one-done (shown form ts) o e)
 
-stops-from : (form : Form) → (ws : List ℕ) (os : List Operation) (ts : List ℕ) → Good form ts → badWork form ts ws ≡ false → let r = performed (shown form ts) os in Stops form (ours form) ws ts os (r .answer) (r .done) (stored form ts (r .pool)) (r .results)
+stops-from : (form : Form) → (ws : List ℕ) (os : List Operation) (ts : List ℕ) → Good form ts → entryFault workWords form ts (length ws) ≡ DONE → let r = performed (shown form ts) os in Stops form (ours form) ws ts os (r .answer) (r .done) (stored form ts (r .pool)) (r .results)
 unfolding performed
 stops-from form ws [] ts g w = subst (λ (us : List ℕ). Stops form (ours form) ws ts [] DONE 0 us []) (sym (stored-same form ts (g .table))) end
 stops-from form ws (o ∷ os) ts g w = either-way (λ (r : Run). Stops form (ours form) ws ts (o ∷ os) (r .answer) (r .done) (stored form ts (r .pool)) (r .results)) (eqb (refusal p o) DONE) (goesOn (effect p o) (performed q os)) (stops p (refusal p o))
@@ -169,14 +208,14 @@ stops-from form ws (o ∷ os) ts g w = either-way (λ (r : Run). Stops form (our
     rows : Answers (operationRows (shown form ts) o) (refusal (shown form ts) o)
     rows = operation-answers (shown form ts) o (g .sound)
 
-    on : refusal (shown form ts) o ≡ DONE → (Good form (stored form ts q) → badWork form (stored form ts q) ws ≡ false → let r = performed (shown form (stored form ts q)) os in Stops form (ours form) ws (stored form ts q) os (r .answer) (r .done) (stored form (stored form ts q) (r .pool)) (r .results))
+    on : refusal (shown form ts) o ≡ DONE → (Good form (stored form ts q) → entryFault workWords form (stored form ts q) (length ws) ≡ DONE → let r = performed (shown form (stored form ts q)) os in Stops form (ours form) ws (stored form ts q) os (r .answer) (r .done) (stored form (stored form ts q) (r .pool)) (r .results))
         → let r = performed q os in Stops form (ours form) ws ts (o ∷ os) (r .answer) (suc (r .done)) (stored form ts (r .pool)) (effect (shown form ts) o .kind ∷ effect (shown form ts) o .value ∷ r .results)
     on e ih =
         let st = stores form ts q (g .table) (effect-alike (shown form ts) o) (effect-sound (shown form ts) o (g .sound) (allowed (shown form ts) o e)) in
         let r = performed q os in
         let us = stored form ts q in
         let one = one-done-run form ts ws o g w e in
-        let k0 = ih (stored-good form ts q st (effect-sound (shown form ts) o (g .sound) (allowed (shown form ts) o e))) (ap (λ (n : ℕ). ltb (length ws) (2 * n)) (st .cells) ∙ w) in
+        let k0 = ih (stored-good form ts q st (effect-sound (shown form ts) o (g .sound) (allowed (shown form ts) o e))) (entry-alike workWords (length ws) form form (stored form ts q) ts (st .cells) ∙ w) in
         let k1 : Stops form (ours form) ws us os (r .answer) (r .done) (stored form us (r .pool)) (r .results)
         = subst (λ (z : Pool). let y = performed z os in Stops form (ours form) ws us os (y .answer) (y .done) (stored form us (y .pool)) (y .results)) (st .shows) k0 in
         let k2 : Stops form (ours form) ws us os (r .answer) (r .done) (stored form ts (r .pool)) (r .results)
@@ -190,7 +229,7 @@ script-stops : (form : Form) → ScriptsStop form (ours form)
 script-stops form ts ws ss rs n =
     let h = passes form ts ws ss rs n in
     subst (λ (r : Ran). (qs : List ℕ) × Stops form (ours form) ws ts (operations ss) (r .answer) (r .count) (r .table) qs × (r .results ≡ over qs rs)) (sym (runs form ts ws ss rs h))
-    (performed (shown form ts) (operations ss) .results, stops-from form ws (operations ss) ts (passed-good form h) (h .work), refl)
+    (performed (shown form ts) (operations ss) .results, stops-from form ws (operations ss) ts (passed-good form h) (h .entry), refl)
 
 -- refused calls
 

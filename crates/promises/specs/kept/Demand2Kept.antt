@@ -16,15 +16,16 @@ use Rattle.pool.specs.Script.{performed}
 use Rattle.pool.specs.laws.ScriptLaws.{allowed}
 use Rattle.table.specs.Limits.{holdersTold}
 use Rattle.table.specs.Sizes.{cellsOf}
-use Rattle.text.specs.laws.Accepted.{accepted}
+use Rattle.text.specs.laws.Accepted.{accepted, accepted-size}
 use Rattle.text.specs.ListText.{textOf, written}
 use Rattle.text.specs.Marks.{listIn}
 use Rattle.text.specs.Text.{Answer, done, refusal, scanned, verdict}
 use Rattle.text.specs.Writing.{usable}
 use Rattle.text.specs.laws.WritingLaws.{writes, written-read, read-written}
-use Rattle.calls.specs.Entry.{badTable, badWork, noHolder, shown, unsound, stored, used, over}
+use Rattle.calls.specs.Entry.{workWords, badTable, entryFault, noHolder, shown, unsound, stored, used, over}
 use Rattle.calls.specs.Run.{Ran, operations, ranIn}
-use Rattle.calls.specs.Read.{Read as Reading, badText, readingIn}
+use Rattle.calls.specs.laws.EntryLaws.{entry-tests, passed}
+use Rattle.calls.specs.Read.{Read as Reading, readingIn}
 use Rattle.calls.specs.Write.{Write, writeList, writingIn}
 use Rattle.promises.specs.Engine.{ours}
 use Rattle.table.specs.Limits.{cellsTold}
@@ -33,7 +34,7 @@ use Rattle.promises.specs.Machine.{Lists, assign, turn, turnAll, Says}
 use Rattle.promises.specs.Demand1.{wordsOf}
 use Rattle.promises.specs.Demand2.{Holds, filled, plain, Records, Ready, Demand2, OperationsGive, OthersStay, ScriptsGive, ReadingGives, CheckingGives, RestGives, WritingGives, WrittenReadsBack, ReadWritesBack}
 use Rattle.promises.specs.laws.TestsTell.{shown-holders, tells-table, tells-unsound, cells-told}
-use Rattle.promises.specs.laws.TextRows.{verdict-is, check-takes}
+use Rattle.promises.specs.laws.TextRows.{check-takes}
 use Rattle.promises.specs.laws.OperationLaws.{HoldsIn, operation-does, assigned}
 use Rattle.promises.specs.laws.Tables.{Good, good, stored-good, good-table, good-sound, fails}
 use Rattle.promises.specs.laws.RunLaws.{passed-good, run-ways}
@@ -119,17 +120,8 @@ written-out form ts ws h out l w =
 ready-good : (form : Form) → {ts ws : List ℕ} → Ready form ts ws → Good form ts
 ready-good form {ts} r = good form ts (fails (badTable form ts) (tells-table form ts) (r .table)) (fails (unsound form ts) (tells-unsound form ts) (λ u. u (r .sound)))
 
-ready-work : (form : Form) → (ts ws : List ℕ) → Good form ts → 2 * cellsTold ts ≤ length ws → badWork form ts ws ≡ false
-ready-work form ts ws g l = let e = cells-told form ts (good-table form ts g) in le-ltb (length ws) (2 * cellsOf form ts) (omega arith)
-
--- a text that is taken passes the tests of its size
-right-size : (xs : List ℕ) (m : ℕ) → verdict xs ≡ done m → (badText xs ≡ false) × (eqb (length xs) 0 ≡ false)
-right-size xs m e = go (badText xs) (eqb (length xs) 0) refl refl (sym (verdict-is xs) ∙ e)
-  where
-    go : (a b : Bool) → badText xs ≡ a → eqb (length xs) 0 ≡ b → cond a (refusal TEXT-SIZE) (cond b (refusal END) (scanned xs)) ≡ done m → (badText xs ≡ false) × (eqb (length xs) 0 ≡ false)
-    go true b p q z = let y : TEXT-SIZE ≡ DONE = ap (λ (r : Answer). r .no) z in absurd (omega arith)
-    go false true p q z = let y : END ≡ DONE = ap (λ (r : Answer). r .no) z in absurd (omega arith)
-    go false false p q z = (p, q)
+ready-work : (form : Form) → (ts ws : List ℕ) → Good form ts → workWords * cellsTold ts ≤ length ws → entryFault workWords form ts (length ws) ≡ DONE
+ready-work form ts ws g l = let e = cells-told form ts (good-table form ts g) in passed (g .table) workWords (length ws) (omega arith)
 
 -- the round trips
 
@@ -140,13 +132,12 @@ back-again : (form : Form) → WrittenReadsBack form (ours form)
 back-again form ts ws out us vs h k l b t lh w d f u lk z room =
     let g = ready-good form t in
     let j = writes (usable (length out)) l d f in
-    let e = writes-list form ts ws h out l (record { table = good-table form ts g; work = ready-work form ts ws g (t .work); held = below form ts h lh; sound = good-sound form ts g }) w j in
+    let e = writes-list form ts ws h out l (record { entry = ready-work form ts ws g (t .work); held = below form ts h lh; sound = good-sound form ts g }) w j in
     let (_, right, same) = written-read (length out) l (word-atoms form ts h l b w) j in
     let xs = written l in
-    let (size, some) = right-size xs (length xs) right in
     let i = ready-good form u in
     let takes-it : Taken form us vs k xs = record {
-      entered = record { table = good-table form us i; work = ready-work form us vs i (u .work); held = below form us k lk; size = size; some = some; sound = good-sound form us i };
+      entered = record { entry = ready-work form us vs i (u .work); held = below form us k lk; size = accepted-size xs (length xs) right .0; sound = good-sound form us i };
       vacant = z;
       right = ap (λ (a : Answer). a .no) right;
       room = subst (λ (m : Lst). extent m ≤ frees (shown form us .cells)) (sym same) room;
@@ -166,11 +157,11 @@ held-as form ts us q h e l n = ap (λ (k : ℕ). leb k h) (sym (shown-holders fo
 
 out-again : (form : Form) → ReadWritesBack (ours form)
 out-again form ts ws vs out h xs t =
-    read-ways form ts ws h xs (λ (r : Reading). r .answer ≡ DONE → Records xs (r .count) t → 2 * cellsTold ts ≤ length vs → r .count ≤ length out → let w = writingIn form (r .table) vs h out in (w .answer ≡ DONE) × (w .output ≡ over (filled (plain t)) out))
+    read-ways form ts ws h xs (λ (r : Reading). r .answer ≡ DONE → Records xs (r .count) t → workWords * cellsTold ts ≤ length vs → r .count ≤ length out → let w = writingIn form (r .table) vs h out in (w .answer ≡ DONE) × (w .output ≡ over (filled (plain t)) out))
     (λ n us d e. absurd (d e))
     (λ k _. go k)
   where
-    go : Taken form ts ws h xs → Records xs (verdict xs .taken) t → 2 * cellsTold ts ≤ length vs → verdict xs .taken ≤ length out → let w = writingIn form (filledIn form ts ws h xs .table) vs h out in (w .answer ≡ DONE) × (w .output ≡ over (filled (plain t)) out)
+    go : Taken form ts ws h xs → Records xs (verdict xs .taken) t → workWords * cellsTold ts ≤ length vs → verdict xs .taken ≤ length out → let w = writingIn form (filledIn form ts ws h xs .table) vs h out in (w .answer ≡ DONE) × (w .output ≡ over (filled (plain t)) out)
     go k c v f =
         let q = read (shown form ts) h (listIn xs) in
         let us = stored form ts q in
@@ -179,8 +170,8 @@ out-again form ts ws vs out h xs t =
         let g = stored-good form ts q st (d .sound) in
         let m = verdict xs .taken in
         let right = taken-verdict xs (k .right) in
-        let told = cells-told form ts (k .entered .table) in
-        let o : Opened form us vs h = record { table = good-table form us g; work = le-ltb (length vs) (2 * cellsOf form us) (omega (arith, st .cells)); held = held-as form ts us q h (st .shows) (read-alike (shown form ts) h (listIn xs) .holders) (k .entered .held); sound = good-sound form us g } in
+        let told = cells-told form ts (entry-tests workWords form ts (length ws) (k .entered .entry) .0) in
+        let o : Opened form us vs h = record { entry = passed (g .table) workWords (length vs) (omega (arith, st .cells, told)); held = held-as form ts us q h (st .shows) (read-alike (shown form ts) h (listIn xs) .holders) (k .entered .held); sound = good-sound form us g } in
         let w : Has form us h (listIn xs) = subst (λ (p : Pool). ListAt (p .cells) (holder p h) (listIn xs)) (sym (st .shows)) (d .gets) in
         let e = writes-list form us vs h out (listIn xs) o w (read-written xs m (length out) right f) in
         (ap (λ (y : Write). y .answer) e, ap (λ (y : Write). y .output) e ∙ ap (λ (y : List ℕ). over (filled y) out) (accepted xs m right .1 ∙ plain-records xs m t c))

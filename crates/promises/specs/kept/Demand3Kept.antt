@@ -5,28 +5,27 @@ use mathlib.Core.List.{List, [], _∷_}
 use Prim.Native.Nat.{ℕ, _+_, _<_}
 use native.Mathlib.Omega.{arith}
 use lib.ListN.{length, getD, drop}
-use borrow.Author.Tests.{le-ltb}
 use Rattle.answers.specs.Answers.{DONE}
 use Rattle.lists.specs.Lst.{extent}
 use Rattle.pool.specs.Pool.{Pool, Live, lives, frees, Sound}
 use Rattle.pool.specs.Operations.{erase}
 use Rattle.pool.specs.laws.EraseLaws.{erases}
-use Rattle.pool.specs.Script.{ERASE, Operation, Effect, effect, refusal}
+use Rattle.pool.specs.Script.{ERASE, numberKind, Operation, Effect, effect, refusal}
 use Rattle.pool.specs.Tally.{Number}
 use Rattle.pool.specs.laws.Room.{frees-lives}
 use Rattle.pool.specs.laws.SoundLaws.{sound-held, denoted}
 use Rattle.text.specs.Marks.{listIn}
-use Rattle.calls.specs.Entry.{badTable, badWork, shown, unsound, over}
+use Rattle.calls.specs.Entry.{workWords, badTable, shown, unsound, over}
 use Rattle.calls.specs.Run.{Ran, operations, ranIn}
 use Rattle.calls.specs.Read.{readingIn}
 use Rattle.promises.specs.Engine.{ours}
 use Rattle.promises.specs.Rows.{None}
-use Rattle.promises.specs.Grounds.{NoRoom}
+use Rattle.promises.specs.Grounds.{NoRoom, entryRows}
 use Rattle.promises.specs.TextGrounds.{beforeReading, readRows}
 use Rattle.promises.specs.Demand1.{wordsOf}
 use Rattle.promises.specs.Demand3.{Free, Used, OnlyBy, erasing, Lent, Demand3, NoRoomToPerform, NoRoomToRead}
-use Rattle.promises.specs.laws.Tells.{passed-over, last-row}
-use Rattle.promises.specs.laws.TestsTell.{tells-table, tells-work, tells-unsound, needs-is}
+use Rattle.promises.specs.laws.Tells.{passed-over, last-row, none-answered}
+use Rattle.promises.specs.laws.TestsTell.{tells-table, entry-answers, tells-unsound, needs-is}
 use Rattle.promises.specs.laws.OperationRows.{room-answers}
 use Rattle.promises.specs.laws.Tables.{Good, good, good-table, good-sound, fails}
 use Rattle.promises.specs.laws.RunLaws.{Passed, runs}
@@ -34,7 +33,7 @@ use Rattle.promises.specs.laws.ScriptDoes.{one-answer}
 use Rattle.promises.specs.laws.OneOperation.{one-accepted, effect-stored}
 use Rattle.promises.specs.laws.Invariant.{reached-good}
 use Rattle.promises.specs.laws.FreeCells.{free-or-live, live-not-free, used-live, live-used, number-used, Number-unique, erase-frees-cells}
-use Rattle.promises.specs.kept.Demand1Kept.{demand1}
+use Rattle.promises.specs.kept.Demand1Kept.{one-fits, demand1}
 use Rattle.table.specs.declared.Form.{Form}
 
 abbrev erasure : ℕ → ℕ → ℕ → Operation
@@ -74,7 +73,7 @@ unfolding operations
 room-run form ts ws rs o k n r w l b c d =
     let g = lent-good form r in
     let t = good-table form ts g in
-    let h : Passed form ts ws (wordsOf o) rs = record { table = t; work = fails (badWork form ts ws) (tells-work form ts ws t) w; script = refl; results = le-ltb (length rs) 2 l; sound = good-sound form ts g } in
+    let h : Passed form ts ws (wordsOf o) rs = record { entry = none-answered (entryRows workWords form ts ws) _ (tells-table form ts .1 t, (w, tt)) (entry-answers workWords form ts ws); script = one-fits o rs l; sound = good-sound form ts g } in
     let e : ranIn form ts ws (wordsOf o) rs .answer ≡ refusal (shown form ts) o = ap (λ (z : Ran). z .answer) (runs form ts ws (wordsOf o) rs h) ∙ one-answer (shown form ts) o in
     let a = room-answers (shown form ts) o (g .sound) b in
     let m : NoRoom (shown form ts) o ↔ (frees (shown form ts .cells) < n) = ((λ (j, q, f). subst (λ (i : ℕ). frees (shown form ts .cells) < i) (sym (needs-is (shown form ts) o (g .sound) j q) ∙ needs-is (shown form ts) o (g .sound) n d) f), (λ f. (n, d, f))) in
@@ -95,7 +94,7 @@ demand3 form = record {
   free-or-reached = λ ts r c i. either (reached-good form r) c (free-or-live (shown form ts) (reached-good form r .sound) c i);
   never-both = λ ts r c i f u. live-not-free (shown form ts) (reached-good form r .sound) c (used-live (shown form ts) (reached-good form r .sound) c (λ z. omega arith) u) f;
   erase-frees = λ ts ws rs a b v e c i. subst (λ (q : Pool). ((Free (shown form ts) c → ⊥) × Free q c) ↔ OnlyBy (shown form ts) a c) (sym (erased form ts ws rs a b v e .0)) (erase-frees-cells (shown form ts) (erased-sound form ts ws rs a b v e) a c i);
-  erase-counts = λ ts ws rs a b v e. subst (λ (qs : List ℕ). (getD qs 0 0 ≡ 2) × Number (OnlyBy (shown form ts) a) (length (shown form ts .cells)) (getD qs 1 0)) (sym (erased form ts ws rs a b v e .1))
+  erase-counts = λ ts ws rs a b v e. subst (λ (qs : List ℕ). (getD qs 0 0 ≡ numberKind) × Number (OnlyBy (shown form ts) a) (length (shown form ts .cells)) (getD qs 1 0)) (sym (erased form ts ws rs a b v e .1))
       (refl, erases (shown form ts) a (erased-sound form ts ws rs a b v e) .number);
   reached-counted = λ ts r. let g = reached-good form r in (lives (shown form ts .cells), number-used (shown form ts) (g .sound));
   no-room-to-perform = room-run form;

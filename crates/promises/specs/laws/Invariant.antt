@@ -23,7 +23,7 @@ use Rattle.calls.specs.Read.{Read as Reading, readingIn}
 use Rattle.promises.specs.Engine.{ours, Reached, made, setAgain, ranOn, readInto}
 use Rattle.promises.specs.laws.Tables.{Good, shape-good, Stored, stores, stored-good}
 use Rattle.promises.specs.laws.RunLaws.{Passed, passed-good, run-ways}
-use Rattle.promises.specs.laws.ReadLaws.{Taken, entered-good, read-ways, read-pool}
+use Rattle.promises.specs.laws.ReadLaws.{Taken, reading-good, read-ways, read-pool}
 use Rattle.table.specs.declared.Form.{Form}
 
 -- reading changes no length
@@ -55,7 +55,7 @@ pub ran-stored : (form : Form) → {ts ws ss rs : List ℕ} → Passed form ts w
 ran-stored form {ts} {ws} {ss} p = stores form ts (performed (shown form ts) (operations ss) .pool) (passed-good form p .table) (performed-alike (operations ss) (shown form ts)) (performed-sound (operations ss) (shown form ts) (passed-good form p .sound))
 
 pub read-stored : (form : Form) → {ts ws xs : List ℕ} {h : ℕ} → Taken form ts ws h xs → Stored form ts (read (shown form ts) h (listIn xs))
-read-stored form {ts} {ws} {xs} {h} t = stores form ts (read (shown form ts) h (listIn xs)) (entered-good form ts ws h xs (t .entered) .table) (read-alike (shown form ts) h (listIn xs)) (read-pool form ts ws h xs t .sound)
+read-stored form {ts} {ws} {xs} {h} t = stores form ts (read (shown form ts) h (listIn xs)) (reading-good form ts ws h xs (t .entered) .table) (read-alike (shown form ts) h (listIn xs)) (read-pool form ts ws h xs t .sound)
 
 pub ran-good : (form : Form) → (ts ws ss rs : List ℕ) → Good form ts → Good form (ranIn form ts ws ss rs .table)
 ran-good form ts ws ss rs g = run-ways form ts ws ss rs (λ (r : Ran). Good form (r .table)) (λ n us m. g)

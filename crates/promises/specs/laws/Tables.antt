@@ -5,6 +5,7 @@ use mathlib.Core.List.{List}
 use Prim.Native.Nat.{ℕ}
 use native.Mathlib.Omega.{arith}
 use borrow.Author.Tests.{eqb-false, ne-eqb, not-false}
+use Rattle.answers.specs.Answers.{DONE}
 use Rattle.pool.specs.Pool.{Pool, Sound}
 use Rattle.pool.specs.laws.CheckLaws.{check-decides}
 use Rattle.pool.specs.laws.Lengths.{Alike}
@@ -15,7 +16,8 @@ use Rattle.table.specs.View.{view, words, Table}
 use Rattle.table.specs.Sizes.{cellsOf, shapeOf}
 use Rattle.table.specs.laws.SizesLaws.{cells-table, table-shape}
 use Rattle.table.specs.laws.WordsLaws.{words-view}
-use Rattle.calls.specs.Entry.{badTable, shown, unsound, stored}
+use Rattle.calls.specs.Entry.{workWords, badTable, entryFault, shown, unsound, stored}
+use Rattle.calls.specs.laws.EntryLaws.{entry-tests}
 use Rattle.promises.specs.laws.Tells.{Tells}
 use Rattle.table.specs.declared.Form.{Form}
 
@@ -29,6 +31,9 @@ is-table form ts e = cells-table form ts (eqb-false (cellsOf form ts) 0 e)
 
 pub good : (form : Form) → (ts : List ℕ) → badTable form ts ≡ false → unsound form ts ≡ false → Good form ts
 good form ts e u = record { table = is-table form ts e; sound = check-decides (shown form ts) .0 (not-false _ u) }
+
+pub entered-good : (form : Form) (ts ws : List ℕ) → entryFault workWords form ts (length ws) ≡ DONE → unsound form ts ≡ false → Good form ts
+entered-good form ts ws e = good form ts (entry-tests workWords form ts (length ws) e .0)
 
 -- the pool that a table of another shape shows, where the shapes agree
 pub shape-shown : (form : Form) → (s : Shape) (us : List ℕ) → s .form ≡ form → Table s us → (shapeOf form us ≡ s) × (shown form us ≡ view s us)

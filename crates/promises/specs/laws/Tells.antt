@@ -1,5 +1,5 @@
 -- A test tells whether a condition holds; and a chain of tests gives the answer of the first row that holds.
-use mathlib.Core.Path.{_≡_, refl, sym, _∙_}
+use mathlib.Core.Path.{_≡_, refl, sym, ap, _∙_, subst}
 use mathlib.Core.Logic.{_⊎_, inl, inr, _↔_}
 use mathlib.Core.Bool.{Bool, true, false, cond, not, _&&_, _||_, true≢false, false≢true}
 use mathlib.Core.List.{List, [], _∷_, _++_}
@@ -7,7 +7,8 @@ use Prim.Native.Nat.{ℕ, _≤_, _<_}
 use native.Mathlib.Omega.{arith}
 use lib.Dec.{eqb, leb, ltb}
 use borrow.Author.Tests.{ltb-true, ltb-false, leb-true, leb-false, eqb-true, eqb-false}
-use Rattle.answers.specs.Answers.{DONE}
+use Rattle.answers.specs.Answers.{DONE, unless}
+use Rattle.answers.specs.laws.Unless.{goes-on, refuses}
 use Rattle.pool.specs.Script.{among}
 use Rattle.promises.specs.Rows.{Row, First, Answers, None, OneOf}
 
@@ -81,3 +82,28 @@ pub rows-before : (rs qs : List Row) (rest : ℕ → Type 0) (k n : ℕ) → Eac
 rows-before [] qs rest k n h a f g = g a
 rows-before (r ∷ rs) qs rest k n h (inl a) f g = inl (a .0, f (λ z. h .0 (sym (a .1) ∙ z)) ∙ a .1)
 rows-before (r ∷ rs) qs rest k n h (inr a) f g = inr (a .0, rows-before rs qs rest k n (h .1) (a .1) f g)
+
+-- tests whose answer is known, at the start of a call
+module _ (rs qs : List Row) (n : ℕ) (each : Each (λ j. j ≡ DONE → ⊥) rs) (a : Answers rs n) where
+  pub unless-first : {X : Type 0} (f : X → ℕ) (rest : ℕ → Type 0) (refuse : ℕ → X) (go : X) → ((m : ℕ) → f (refuse m) ≡ m) → (n ≡ DONE → First qs rest (f go))
+      → First (rs ++ qs) rest (f (unless n refuse go))
+  unless-first f rest refuse go e g =
+      rows-before rs qs rest n (f (unless n refuse go)) each a (λ d. ap f (refuses n refuse go d) ∙ e n)
+      (λ z. subst (First qs rest) (sym (ap f (goes-on n refuse go z))) (g z))
+
+-- no row holds exactly if the answer is DONE
+pub answered-none : (rs : List Row) (n : ℕ) → Each (λ j. j ≡ DONE → ⊥) rs → Answers rs n → n ≡ DONE → None rs
+answered-none rs n each a z = first-none rs (λ m. m ≡ DONE) n (differs rs each) a .0
+  where
+    differs : (ps : List Row) → Each (λ j. j ≡ DONE → ⊥) ps → Each (λ j. n ≡ j → ⊥) ps
+    differs [] e = tt
+    differs (p ∷ ps) e = ((λ q. e .0 (sym q ∙ z)), differs ps (e .1))
+
+pub none-answered : (rs : List Row) (n : ℕ) → None rs → Answers rs n → n ≡ DONE
+none-answered [] n h a = a
+none-answered (r ∷ rs) n h (inl a) = absurd (h .0 (a .0))
+none-answered (r ∷ rs) n h (inr a) = none-answered rs n (h .1) (a .1)
+
+pub none-both : (rs qs : List Row) → (None rs × None qs) ↔ None (rs ++ qs)
+none-both [] qs = ((λ h. h .1), (λ h. (tt, h)))
+none-both (r ∷ rs) qs = ((λ h. (h .0 .0, none-both rs qs .0 (h .0 .1, h .1))), (λ h. let k = none-both rs qs .1 (h .1) in ((h .0, k .0), k .1)))

@@ -6,8 +6,10 @@ use mathlib.Core.List.{List}
 use Prim.Native.Nat.{ℕ, zero, suc, _*_, _/_, _%_, _≤_, _<_}
 use native.Mathlib.Omega.{arith}
 use lib.Dec.{eqb, leb, ltb}
-use lib.ListN.{length}
+use lib.ListN.{length, drop}
 use borrow.Author.Tests.{ltb-true, leb-false, eqb-true, eqb-false, eq-eqb}
+use Rattle.answers.specs.Answers.{DONE, TABLE-SIZE, WORK-SPACE, SCRIPT, RESULTS, TEXT-SIZE, END}
+use Rattle.answers.specs.Codes.{operationWords, resultWords}
 use Rattle.lists.specs.Lst.{Lst, nil, atom, list}
 use Rattle.pool.specs.Pool.{Cell, Pool, countOf, nextOf, holder, ListAt, frees, Sound}
 use Rattle.pool.specs.Operations.{anyShared, sharedAt, lengthOf}
@@ -16,19 +18,20 @@ use Rattle.pool.specs.laws.CheckLaws.{check-decides}
 use Rattle.pool.specs.laws.SoundLaws.{denoted}
 use Rattle.pool.specs.laws.Inverse.{Alone}
 use Rattle.pool.specs.laws.Level.{length-is, alone}
-use Rattle.pool.specs.Script.{PFA, DECAP, INV, CINV, CONC, LENGTH, Operation, among, usesB, badCode, badHolder, sameHolder, nullList, occupied, sharedCells, needed, noRoom}
+use Rattle.pool.specs.Script.{PFA, DECAP, INV, CINV, CONC, lastCode, Operation, among, usesB, badCode, badHolder, sameHolder, nullList, occupied, sharedCells, needed, noRoom}
 use Rattle.table.specs.Limits.{cellsMost, holdersFit, cellsTold, holdersTold, tableWords}
 use Rattle.table.specs.laws.ViewLaws.{view-holders}
 use Rattle.table.specs.View.{shape}
 use Rattle.table.specs.Sizes.{sizesFit, cellsOf, shapeOf}
 use Rattle.table.specs.laws.SizesLaws.{fits-told}
 use Rattle.text.specs.Limits.{recordBytes, textMost}
-use Rattle.calls.specs.Entry.{badTable, badWork, noHolder, shown, unsound}
-use Rattle.calls.specs.Run.{badScript, badResults}
-use Rattle.calls.specs.Read.{badText}
-use Rattle.promises.specs.Grounds.{BadSize, BadTable, BadWork, BadScript, BadResults, Unsound, NoHolder, withB, takingFirst, fillingB, takingOne, UsesB, onward, SomeShared, BadCode, BadHolder, Same, Null, Occupied, Shared, Needs, NoRoom}
-use Rattle.promises.specs.TextGrounds.{BadText}
-use Rattle.promises.specs.laws.Tells.{Tells, tells-eq, tells-le, tells-lt, tells-not, tells-and, tells-or, tells-as, tells-among}
+use Rattle.text.specs.Text.{badText, atEnd, sizeFault}
+use Rattle.calls.specs.Entry.{badTable, badWork, entryFault, noHolder, shown, unsound}
+use Rattle.calls.specs.Run.{badScript, badResults, scriptFault}
+use Rattle.promises.specs.Grounds.{BadSize, BadTable, BadWork, BadScript, BadResults, Unsound, NoHolder, entryRows, scriptRows, withB, takingFirst, fillingB, takingOne, UsesB, onward, SomeShared, BadCode, BadHolder, Same, Null, Occupied, Shared, Needs, NoRoom}
+use Rattle.promises.specs.TextGrounds.{BadText, sizeRows}
+use Rattle.promises.specs.Rows.{Answers}
+use Rattle.promises.specs.laws.Tells.{Tells, tells-eq, tells-le, tells-lt, tells-not, tells-and, tells-or, tells-as, tells-among, first, Each}
 use Rattle.table.specs.declared.Form.{Form}
 
 -- sizes
@@ -70,14 +73,34 @@ pub cells-told : (form : Form) → (ts : List ℕ) → badTable form ts ≡ fals
 unfolding cellsOf
 cells-told form ts e = told-cells (sizesFit (shape form (holdersTold form ts) (cellsTold ts)) (length ts)) (cellsTold ts) e
 
-pub tells-work : (form : Form) → (ts ws : List ℕ) → badTable form ts ≡ false → Tells (badWork form ts ws) (BadWork ts ws)
-tells-work form ts ws e = subst (λ (n : ℕ). Tells (badWork form ts ws) (length ws < 2 * n)) (cells-told form ts e) (tells-lt (length ws) (2 * cellsOf form ts))
+tells-work : (k : ℕ) (form : Form) (ts ws : List ℕ) → badTable form ts ≡ false → Tells (badWork k form ts (length ws)) (BadWork k ts ws)
+tells-work k form ts ws e = subst (λ (n : ℕ). Tells (badWork k form ts (length ws)) (length ws < k * n)) (cells-told form ts e) (tells-lt (length ws) (k * cellsOf form ts))
 
-pub tells-script : (ss : List ℕ) → Tells (badScript ss) (BadScript ss)
-tells-script ss = tells-or (not (eqb (length ss % 4) 0)) _ (tells-not (eqb (length ss % 4) 0) (tells-eq (length ss % 4) 0)) (tells-lt _ (length ss))
+abbrev itself : ℕ → ℕ
+itself n = n
 
-pub tells-results : (ss rs : List ℕ) → Tells (badResults ss rs) (BadResults ss rs)
-tells-results ss rs = tells-lt (length rs) (2 * (length ss / 4))
+-- the first tests of every call, and those of a script's sizes
+pub entry-answers : (k : ℕ) (form : Form) (ts ws : List ℕ) → Answers (entryRows k form ts ws) (entryFault k form ts (length ws))
+unfolding entryFault
+entry-answers k form ts ws =
+    first itself (Answers (drop 1 (entryRows k form ts ws))) (badTable form ts) TABLE-SIZE _ (tells-table form ts) refl (λ e.
+    first itself (λ m. m ≡ DONE) (badWork k form ts (length ws)) WORK-SPACE DONE (tells-work k form ts ws e) refl (λ _. refl))
+
+tells-script : (ss : List ℕ) → Tells (badScript ss) (BadScript ss)
+tells-script ss = tells-or (not (eqb (length ss % operationWords) 0)) _ (tells-not (eqb (length ss % operationWords) 0) (tells-eq (length ss % operationWords) 0)) (tells-lt _ (length ss))
+
+pub script-answers : (ss rs : List ℕ) → Answers (scriptRows ss rs) (scriptFault ss rs)
+unfolding scriptFault
+script-answers ss rs =
+    first itself (Answers (drop 1 (scriptRows ss rs))) (badScript ss) SCRIPT _ (tells-script ss) refl (λ _.
+    first itself (λ m. m ≡ DONE) (badResults ss rs) RESULTS DONE (tells-lt (length rs) (resultWords * (length ss / operationWords))) refl (λ _. refl))
+
+-- no number of these rows is DONE
+pub entry-each : (k : ℕ) (form : Form) (ts ws : List ℕ) → Each (λ n. n ≡ DONE → ⊥) (entryRows k form ts ws)
+entry-each k form ts ws = ((λ z. omega arith), ((λ z. omega arith), tt))
+
+pub script-each : (ss rs : List ℕ) → Each (λ n. n ≡ DONE → ⊥) (scriptRows ss rs)
+script-each ss rs = ((λ z. omega arith), ((λ z. omega arith), tt))
 
 pub tells-sound : (p : Pool) → Tells (check p) (Sound p)
 tells-sound p = (check-decides p .0, λ e s. absurd (true≢false (sym (check-decides p .1 s) ∙ e)))
@@ -92,25 +115,34 @@ shown-holders form ts = view-holders (shapeOf form ts) ts
 pub tells-holder : (form : Form) → (ts : List ℕ) (h : ℕ) → Tells (noHolder form ts h) (NoHolder (shown form ts) h)
 tells-holder form ts h = subst (λ (n : ℕ). Tells (noHolder form ts h) (n ≤ h)) (sym (shown-holders form ts)) (tells-le (holdersTold form ts) h)
 
-pub tells-text : (xs : List ℕ) → Tells (badText xs) (BadText xs)
+tells-text : (xs : List ℕ) → Tells (badText xs) (BadText xs)
 tells-text xs = tells-or (not (eqb (length xs % recordBytes) 0)) (ltb textMost (length xs)) (tells-not (eqb (length xs % recordBytes) 0) (tells-eq (length xs % recordBytes) 0)) (tells-lt textMost (length xs))
+
+pub size-answers : (xs : List ℕ) → Answers (sizeRows xs) (sizeFault xs)
+unfolding sizeFault
+size-answers xs =
+    first itself (Answers (drop 1 (sizeRows xs))) (badText xs) TEXT-SIZE _ (tells-text xs) refl (λ _.
+    first itself (λ m. m ≡ DONE) (atEnd xs) END DONE (tells-eq (length xs) 0) refl (λ _. refl))
+
+pub size-each : (xs : List ℕ) → Each (λ n. n ≡ DONE → ⊥) (sizeRows xs)
+size-each xs = ((λ z. omega arith), ((λ z. omega arith), tt))
 
 -- an operation
 
 pub tells-code : (o : Operation) → Tells (badCode o) (BadCode o)
-tells-code o = tells-as (tells-not (leb PFA (o .code) && leb (o .code) LENGTH) (tells-and (leb PFA (o .code)) (leb (o .code) LENGTH) (tells-le PFA (o .code)) (tells-le (o .code) LENGTH)))
+tells-code o = tells-as (tells-not (leb PFA (o .code) && leb (o .code) lastCode) (tells-and (leb PFA (o .code)) (leb (o .code) lastCode) (tells-le PFA (o .code)) (tells-le (o .code) lastCode)))
     (λ f. bad f (leb PFA (o .code)) refl)
     good
   where
-    bad : ((PFA ≤ o .code) × (o .code ≤ LENGTH) → ⊥) → (b : Bool) → leb PFA (o .code) ≡ b → BadCode o
-    bad f true e = inr (go (leb (o .code) LENGTH) refl)
+    bad : ((PFA ≤ o .code) × (o .code ≤ lastCode) → ⊥) → (b : Bool) → leb PFA (o .code) ≡ b → BadCode o
+    bad f true e = inr (go (leb (o .code) lastCode) refl)
       where
-        go : (c : Bool) → leb (o .code) LENGTH ≡ c → LENGTH < o .code
-        go true g = absurd (f (tells-le PFA (o .code) .0 e, tells-le (o .code) LENGTH .0 g))
-        go false g = leb-false (o .code) LENGTH g
+        go : (c : Bool) → leb (o .code) lastCode ≡ c → lastCode < o .code
+        go true g = absurd (f (tells-le PFA (o .code) .0 e, tells-le (o .code) lastCode .0 g))
+        go false g = leb-false (o .code) lastCode g
     bad f false e = inl (leb-false PFA (o .code) e)
 
-    good : BadCode o → (PFA ≤ o .code) × (o .code ≤ LENGTH) → ⊥
+    good : BadCode o → (PFA ≤ o .code) × (o .code ≤ lastCode) → ⊥
     good (inl h) r = omega (arith, r .0)
     good (inr h) r = omega (arith, r .1)
 

@@ -1,7 +1,7 @@
 -- The text check answers the earliest fault of the text form, or takes the records of one list. By induction on the characters.
 use mathlib.Core.Path.{_≡_, refl, sym, ap, _∙_, subst}
 use mathlib.Core.Logic.{_≢_, _⊎_, inl, inr}
-use mathlib.Core.Bool.{Bool, true, false, cond, not, _||_}
+use mathlib.Core.Bool.{Bool, true, false, cond}
 use mathlib.Core.List.{List, [], _∷_, _++_, append-assoc, append-nil}
 use Prim.Native.Nat.{ℕ, _+_, _%_}
 use native.Mathlib.Omega.{arith}
@@ -9,15 +9,15 @@ use lib.Dec.{eqb, leb, ltb}
 use lib.ListN.{length, getD, take, drop, length-append}
 use lib.Seq.{take-append-seam}
 use borrow.Author.Tests.{leb-true, leb-false, lt-ltb, le-ltb, eqb-true, eqb-false}
-use Rattle.answers.specs.Answers.{DONE, TEXT-SIZE, END, NOT-A-LIST, ATOM, DEEP}
+use Rattle.answers.specs.Answers.{DONE, NOT-A-LIST, ATOM, DEEP}
+use Rattle.answers.specs.laws.Unless.{both-ways}
 use Rattle.text.specs.Limits.{recordBytes, textMost}
-use Rattle.text.specs.Text.{Scan, Step, mark, fault, State, at, refused, taken, Answer, refusal, answer, begin, stepOf, settle, run, scanned, verdict, isOver}
+use Rattle.text.specs.Text.{Scan, Step, mark, fault, State, at, refused, taken, Answer, refusal, answer, begin, stepOf, settle, run, scanned, sizeFault, verdict, isOver}
 use Rattle.text.specs.laws.TextLaws.{rests-refused, rests-taken}
-use Rattle.calls.specs.Read.{badText}
 use Rattle.promises.specs.Rows.{First, Answers}
-use Rattle.promises.specs.TextGrounds.{along, lastIn, FaultAt, NoFault, Complete, Fine, Faulted, RunsOut, TakesRecords, faultRows, checkRows}
-use Rattle.promises.specs.laws.Tells.{tells-eq, first}
-use Rattle.promises.specs.laws.TestsTell.{tells-text}
+use Rattle.promises.specs.TextGrounds.{along, lastIn, FaultAt, NoFault, Complete, Fine, Faulted, RunsOut, TakesRecords, sizeRows, faultRows, checkRows}
+use Rattle.promises.specs.laws.Tells.{unless-first}
+use Rattle.promises.specs.laws.TestsTell.{size-answers, size-each}
 use Rattle.promises.specs.laws.TextPlaces.{Placed, StepAt, step-at, over-ended, ended-over, placed-first}
 
 -- two places in one text: the same, or one before the other
@@ -190,42 +190,24 @@ scan-answers xs = go (walked-from xs)
         let w : Whole xs = (vs, later, p, f, c) in
         inr (no-row w, inr ((λ g. whole-faulted xs ATOM w g), inr ((λ g. whole-faulted xs DEEP w g), number r)))
 
--- the check by its three tests in a row
-pub verdict-is : (xs : List ℕ) → verdict xs ≡ cond (badText xs) (refusal TEXT-SIZE) (cond (eqb (length xs) 0) (refusal END) (scanned xs))
-unfolding verdict
-verdict-is xs = go (eqb (length xs % recordBytes) 0) (leb (length xs) textMost) refl
-  where
-    go : (a b : Bool) → leb (length xs) textMost ≡ b
-        → cond a (cond b (cond (eqb (length xs) 0) (refusal END) (scanned xs)) (refusal TEXT-SIZE)) (refusal TEXT-SIZE)
-        ≡ cond (not a || ltb textMost (length xs)) (refusal TEXT-SIZE) (cond (eqb (length xs) 0) (refusal END) (scanned xs))
-    go true true e = rw (le-ltb textMost (length xs) (leb-true (length xs) textMost e))
-    go true false e = rw (lt-ltb textMost (length xs) (leb-false (length xs) textMost e))
-    go false b e = refl
-
 pub check-answers : (xs : List ℕ) → Answers (checkRows xs) (verdict xs .no)
-check-answers xs = subst (λ (r : Answer). Answers (checkRows xs) (r .no)) (sym (verdict-is xs))
-    (first (λ (r : Answer). r .no) (First (drop 1 (checkRows xs)) (λ m. m ≡ DONE)) (badText xs) (refusal TEXT-SIZE) _ (tells-text xs) refl (λ _.
-    first (λ (r : Answer). r .no) (Answers (faultRows xs)) (eqb (length xs) 0) (refusal END) (scanned xs) (tells-eq (length xs) 0) refl (λ _. scan-answers xs)))
+unfolding verdict
+check-answers xs = unless-first (sizeRows xs) (faultRows xs) (sizeFault xs) (size-each xs) (size-answers xs) (λ (r : Answer). r .no) (λ m. m ≡ DONE) refusal (scanned xs) (λ m. refl) (λ _. scan-answers xs)
 
 -- a refused text has no bytes taken
 pub check-refused : (xs : List ℕ) → verdict xs .no ≢ DONE → verdict xs .taken ≡ 0
-unfolding scanned
-check-refused xs = subst (λ (r : Answer). r .no ≢ DONE → r .taken ≡ 0) (sym (verdict-is xs)) (sizes (badText xs) (eqb (length xs) 0) (run (at begin 0) xs))
+unfolding verdict scanned
+check-refused xs = both-ways (sizeFault xs) refusal (scanned xs) (λ (r : Answer). r .no ≢ DONE → r .taken ≡ 0) (λ n d. refl) (λ z. ends (run (at begin 0) xs))
   where
     ends : (st : State) → answer st .no ≢ DONE → answer st .taken ≡ 0
     ends (at s n) d = refl
     ends (refused k) d = refl
     ends (taken n) d = absurd (d refl)
 
-    sizes : (b c : Bool) (st : State) → let r = cond b (refusal TEXT-SIZE) (cond c (refusal END) (answer st)) in r .no ≢ DONE → r .taken ≡ 0
-    sizes true c st d = refl
-    sizes false true st d = refl
-    sizes false false st d = ends st d
-
 -- an accepted text is taken up to the end of its list's last record
 pub check-takes : (xs : List ℕ) → verdict xs .no ≡ DONE → TakesRecords xs (verdict xs .taken)
-unfolding scanned
-check-takes xs = subst (λ (r : Answer). r .no ≡ DONE → TakesRecords xs (r .taken)) (sym (verdict-is xs)) (sizes (badText xs) (eqb (length xs) 0))
+unfolding verdict scanned
+check-takes xs = both-ways (sizeFault xs) refusal (scanned xs) (λ (r : Answer). r .no ≡ DONE → TakesRecords xs (r .taken)) (λ n z. absurd (n z)) (λ z. ends (walked-from xs))
   where
     number : {k : ℕ} {st : State} → run (at begin 0) xs ≡ st → answer st .no ≡ k → answer (run (at begin 0) xs) .no ≡ DONE → k ≡ DONE
     number e q z = sym q ∙ sym (ap (λ (u : State). answer u .no) e) ∙ z
@@ -242,8 +224,3 @@ check-takes xs = subst (λ (r : Answer). r .no ≡ DONE → TakesRecords xs (r .
         let e : answer (run (at begin 0) xs) .taken ≡ length vs = ap (λ (u : State). answer u .taken) r ∙ d in
         let cut : take (answer (run (at begin 0) xs) .taken) xs ≡ vs = ap (λ (n : ℕ). take n xs) e ∙ ap (take (length vs)) p ∙ take-append-seam vs later in
         (omega (arith, e, ap length p, length-append vs later), subst Fine (sym cut) f, subst Complete (sym cut) c)
-
-    sizes : (b c : Bool) → let r = cond b (refusal TEXT-SIZE) (cond c (refusal END) (scanned xs)) in r .no ≡ DONE → TakesRecords xs (r .taken)
-    sizes true c z = absurd (omega arith)
-    sizes false true z = absurd (omega arith)
-    sizes false false z = ends (walked-from xs) z

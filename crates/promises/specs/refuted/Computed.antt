@@ -7,10 +7,12 @@ use Rattle.pool.specs.Operations.{laid, fresh, share, itemOf, pfa, decap, borro
 use Rattle.pool.specs.Script.{refusal, effect, poolAfter, performed}
 use Rattle.table.specs.laws.Computes.{computes}
 use Rattle.calls.specs.SetUp.{setUpIn}
-use Rattle.calls.specs.Run.{operations, ranIn}
+use Rattle.calls.specs.Entry.{entryFault}
+use Rattle.calls.specs.Run.{operations, scriptFault, ranIn}
+use Rattle.text.specs.Text.{sizeFault}
 use Rattle.promises.specs.Machine.{assign, turn, turnAll}
 use Rattle.promises.specs.refuted.WrongEngines.{performedBy, ranBy, stepping, countsRight}
 
 unfoldable pub computed : Unit {0}
-unfolding same tally mark frees lives ifLive gives sends check peeled? turns popped pop arrow meet lowered named chained visit step dropping total dropped laid fresh share itemOf pfa decap borrow erase flip inv lastOf concAt conc span anyShared refusal effect poolAfter performed computes setUpIn operations ranIn turn assign turnAll performedBy ranBy stepping countsRight
+unfolding same tally mark frees lives ifLive gives sends check peeled? turns popped pop arrow meet lowered named chained visit step dropping total dropped laid fresh share itemOf pfa decap borrow erase flip inv lastOf concAt conc span anyShared refusal effect poolAfter performed computes setUpIn operations entryFault scriptFault sizeFault ranIn turn assign turnAll performedBy ranBy stepping countsRight
 computed = tt

@@ -10,7 +10,7 @@ use Rattle.pool.specs.Pool.{elemOf}
 use Rattle.pool.specs.Operations.{pfl, copy, cinv, load, read}
 use Rattle.pool.specs.Script.{PFL, BORROW, ERASE, Operation}
 use Rattle.text.specs.Marks.{listIn}
-use Rattle.text.specs.Text.{scanned, verdict}
+use Rattle.text.specs.Text.{scanned, sizeFault, verdict}
 use Rattle.calls.specs.SetUp.{setUp}
 use Rattle.calls.specs.Entry.{shown}
 use Rattle.calls.specs.Read.{readingIn}
@@ -70,7 +70,7 @@ keeps-cells d =
 
 -- a text of 0 bytes is refused, with 0 bytes taken
 pub counts-refused : RefusedCheck countsRefused → ⊥
-unfolding verdict
+unfolding sizeFault verdict
 counts-refused d = omega (arith, d [] (λ z. omega arith))
 
 -- the null list in one record, and a record behind it
@@ -78,7 +78,7 @@ abbrev text : List ℕ
 text = 40 ∷ 41 ∷ (replicate 70 32 ++ replicate 72 40)
 
 pub loses-rest : RestGives losesRest → ⊥
-unfolding verdict scanned
+unfolding sizeFault verdict scanned
 loses-rest d = let e : _≡_ {A = List ℕ} [] (replicate 72 40) = d text .0 refl in omega (arith, ap length e)
 
 -- after PFA to holder 0, BORROW of it is another cell

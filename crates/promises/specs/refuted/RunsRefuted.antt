@@ -9,7 +9,7 @@ use Rattle.answers.specs.Answers.{DONE, NULL, NO-ROOM}
 use Rattle.pool.specs.Pool.{Cell, nextOf, holder, Walk, Chain}
 use Rattle.pool.specs.Script.{DECAP, BORROW, Operation}
 use Rattle.calls.specs.Entry.{shown}
-use Rattle.calls.specs.Run.{operations, badScript, badResults}
+use Rattle.calls.specs.Run.{operations, scriptFault}
 use Rattle.promises.specs.Engine.{Engine, made, ranOn}
 use Rattle.promises.specs.Rows.{row, Answers}
 use Rattle.promises.specs.Grounds.{NoRoom, beforeRoom, operationRows}
@@ -35,10 +35,10 @@ module _ {E : Engine} {ws : List ℕ} where
   first-refused (done a s) z = absurd (omega arith)
 
 -- two operations on a table of one cell and no list
-stopped : (E : Engine) → ScriptsStop Four E → (ss : List ℕ) → badScript ss ≡ false → badResults ss (zeros 4) ≡ false
+stopped : (E : Engine) → ScriptsStop Four E → (ss : List ℕ) → scriptFault ss (zeros 4) ≡ DONE
     → let r = E .run one (zeros 2) ss (zeros 4) in (qs : List ℕ) × Stops Four E (zeros 2) one (operations ss) (r .answer) (r .count) (r .table) qs
 unfolding computed
-stopped E d ss h k = let (qs, s, _) = d one (zeros 2) ss (zeros 4) (passed-none Four one (zeros 2) ss (zeros 4) (record { table = refl; work = refl; script = h; results = k; sound = refl })) in (qs, s)
+stopped E d ss h = let (qs, s, _) = d one (zeros 2) ss (zeros 4) (passed-none Four one (zeros 2) ss (zeros 4) (record { entry = refl; script = h; sound = refl })) in (qs, s)
 
 abbrev decap : ℕ → ℕ → List ℕ
 decap a b = DECAP ∷ a ∷ b ∷ 0 ∷ []
@@ -46,14 +46,14 @@ decap a b = DECAP ∷ a ∷ b ∷ 0 ∷ []
 -- DECAP of a null list is refused, and PFA behind it is done all the same
 pub goes-on-refused : ScriptsStop Four goesOnRefused → ⊥
 unfolding computed
-goes-on-refused d = let e : _≡_ {A = ℕ} 1 0 = ap (λ (us : List ℕ). holder (shown Four us) 0) (stays (stopped goesOnRefused d (decap 0 1 ++ prefix 0 5) refl refl .1) refl) in omega arith
+goes-on-refused d = let e : _≡_ {A = ℕ} 1 0 = ap (λ (us : List ℕ). holder (shown Four us) 0) (stays (stopped goesOnRefused d (decap 0 1 ++ prefix 0 5) refl .1) refl) in omega arith
 
 -- DECAP of a null list is refused, and PFA before it is not done: its own rows do not say NULL
 pub undoes-all : ScriptsStop Four undoesAll → ⊥
 unfolding computed
 undoes-all d =
     let p = shown Four one in
-    let rows = first-refused (stopped undoesAll d (prefix 0 5 ++ decap 1 2) refl refl .1) refl in
+    let rows = first-refused (stopped undoesAll d (prefix 0 5 ++ decap 1 2) refl .1) refl in
     ⊎-elim (λ h. omega (arith, h .1)) (λ h. omega (arith, h .1))
     (passed-over (beforeRoom p (prefixing 0 5)) (row NO-ROOM (NoRoom p (prefixing 0 5)) ∷ []) (λ m. m ≡ DONE) NULL (pfa-passes p 5 (omega arith)) rows)
 

@@ -15,7 +15,7 @@ use Rattle.pool.specs.laws.PoolLaws.{ListAt-unique}
 use Rattle.pool.specs.Operations.{load, read, listFrom}
 use Rattle.text.specs.ListText.{textOf}
 use Rattle.text.specs.Marks.{listIn}
-use Rattle.text.specs.Text.{scanned, verdict}
+use Rattle.text.specs.Text.{scanned, sizeFault, verdict}
 use Rattle.calls.specs.Entry.{badTable, shown}
 use Rattle.calls.specs.Read.{readingIn}
 use Rattle.calls.specs.Write.{writingIn}
@@ -59,7 +59,7 @@ all-blank (suc n) = omega (arith, all-blank n)
 
 -- fewer than 72 blanks stand behind a list, where these are 142
 pub takes-all-checking : CheckingGives takesAll → ⊥
-unfolding verdict scanned tally same
+unfolding sizeFault verdict scanned tally same
 takes-all-checking d =
     let (l, t, r, _) = d nullText refl in
     let e : 142 ≡ occ (t ++ blanks (r .blanks)) 32 = ap (λ (us : List ℕ). occ us 32) (r .bytes) in
@@ -67,7 +67,7 @@ takes-all-checking d =
 
 -- twelve zeros are taken for an atom
 pub counts-no-digits : CheckingTakes countsNoDigits → ⊥
-unfolding verdict scanned runUncounted along
+unfolding sizeFault verdict scanned runUncounted along
 counts-no-digits d =
     let us : List ℕ = 40 ∷ replicate 11 48 in
     let n = d (us ++ (48 ∷ 41 ∷ blanks 58)) refl .1 us 48 (41 ∷ blanks 58) refl .0 in

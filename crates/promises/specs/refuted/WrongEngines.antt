@@ -5,7 +5,7 @@ use mathlib.Core.List.{List, [], _∷_}
 use Prim.Native.Nat.{ℕ, zero, suc, _+_, _-_}
 use lib.Dec.{eqb, ltb}
 use lib.ListN.{length, getD, set, take, replicate}
-use Rattle.answers.specs.Answers.{DONE, TABLE-SIZE, WORK-SPACE, SCRIPT, RESULTS, UNSOUND, SAME, SHARED, NO-ROOM}
+use Rattle.answers.specs.Answers.{DONE, TABLE-SIZE, UNSOUND, unless, SAME, SHARED, NO-ROOM}
 use Rattle.pool.specs.Tally.{occ}
 use Rattle.pool.specs.Pool.{Pool, countOf, nextOf, setCount, setNext, holder, frees, into}
 use Rattle.pool.specs.Erase.{Dropping, step, total}
@@ -15,8 +15,8 @@ use Rattle.pool.specs.Script.{PFA, DECAP, BORROW, ERASE, INV, CINV, CONC, Opera
 use Rattle.table.specs.Fields.{putField}
 use Rattle.pool.specs.Setters.{putFree}
 use Rattle.calls.specs.SetUp.{setUpIn}
-use Rattle.calls.specs.Entry.{badTable, badWork, shown, stored, used}
-use Rattle.calls.specs.Run.{Ran, operations, badScript, badResults, notRun, ranTo, ran}
+use Rattle.calls.specs.Entry.{workWords, entryFault, shown, stored, used}
+use Rattle.calls.specs.Run.{Ran, operations, scriptFault, notRun, ranTo, ran}
 use Rattle.calls.specs.Read.{notRead, readIn}
 use Rattle.calls.specs.Write.{notWritten, writeOut}
 use Rattle.promises.specs.Engine.{Engine, ours}
@@ -100,12 +100,10 @@ performedBy f g p (o ∷ os) = let r = performedBy f g (g p o .pool) os in cond 
 
 unfoldable pub ranBy : (Pool → Bool) → (Pool → List Operation → Run) → List ℕ → List ℕ → List ℕ → List ℕ → Ran
 ranBy sound perform ts ws ss rs =
-    cond (badTable Four ts) (notRun TABLE-SIZE ts ws rs)
-    (cond (badWork Four ts ws) (notRun WORK-SPACE ts ws rs)
-    (cond (badScript ss) (notRun SCRIPT ts ws rs)
-    (cond (badResults ss rs) (notRun RESULTS ts ws rs)
+    unless (entryFault workWords Four ts (length ws)) (λ n. notRun n ts ws rs)
+    (unless (scriptFault ss rs) (λ n. notRun n ts ws rs)
     (cond (not (sound (shown Four ts))) (notRun UNSOUND ts (used Four ts ws) rs)
-    (ranTo Four (perform (shown Four ts) (operations ss)) ts ws rs)))))
+    (ranTo Four (perform (shown Four ts) (operations ss)) ts ws rs)))
 
 abbrev ruled : (Pool → Operation → ℕ) → (Pool → Operation → Effect) → Engine
 ruled f g = running (ranBy check (performedBy f g))

@@ -16,7 +16,8 @@ use Rattle.pool.specs.laws.EraseLaws.{erases}
 use Rattle.pool.specs.laws.SoundLaws.{denoted}
 use Rattle.pool.specs.Script.{ERASE, Operation, Effect, refusal, effect, tellsNumber, performed}
 use Rattle.pool.specs.laws.ScriptLaws.{allowed, effect-sound}
-use Rattle.calls.specs.Entry.{badWork, shown, stored, over}
+use Rattle.calls.specs.Entry.{workWords, entryFault, shown, stored, over}
+use Rattle.calls.specs.laws.EntryLaws.{entry-alike}
 use Rattle.calls.specs.Run.{operations}
 use Rattle.promises.specs.Engine.{Engine}
 use Rattle.promises.specs.Rows.{Answers}
@@ -56,7 +57,7 @@ rows-refusal : (form : Form) → (ts : List ℕ) (o : Operation) (n : ℕ) → G
 rows-refusal form ts o n g a = one-answer (operationRows (shown form ts) o) (refusal (shown form ts) o) n (operation-answers (shown form ts) o (g .sound)) a
 
 module _ (form : Form) (E : Engine) (K : Keeps form E) (ws : List ℕ) where
-  module _ (ts : List ℕ) (o : Operation) (g : Good form ts) (w : badWork form ts ws ≡ false) (a : Answers (operationRows (shown form ts) o) DONE) where
+  module _ (ts : List ℕ) (o : Operation) (g : Good form ts) (w : entryFault workWords form ts (length ws) ≡ DONE) (a : Answers (operationRows (shown form ts) o) DONE) where
     -- what its rows allow is done
     allows : alone E ws ts o .answer ≡ DONE
     unfolding operations
@@ -98,7 +99,7 @@ module _ (form : Form) (E : Engine) (K : Keeps form E) (ws : List ℕ) where
             q ∙ erased-are h n q
 
   -- where the operations stop, and with what
-  pub stops-as : (os : List Operation) {ts us qs : List ℕ} {n k : ℕ} → Good form ts → badWork form ts ws ≡ false → Stops form E ws ts os n k us qs
+  pub stops-as : (os : List Operation) {ts us qs : List ℕ} {n k : ℕ} → Good form ts → entryFault workWords form ts (length ws) ≡ DONE → Stops form E ws ts os n k us qs
       → let r = performed (shown form ts) os in (n ≡ r .answer) × (k ≡ r .done) × (us ≡ stored form ts (r .pool)) × (qs ≡ r .results)
   unfolding performed
   stops-as [] {ts} g w end = (refl, refl, sym (stored-same form ts (g .table)), refl)
@@ -110,7 +111,7 @@ module _ (form : Form) (E : Engine) (K : Keeps form E) (ws : List ℕ) where
       let q = effect (shown form ts) o .pool in
       let st = effect-stored form ts o g e in
       let next = subst (λ (vs : List ℕ). Stops form E ws vs os n k us qs) (table-is ts o g w a) s in
-      let (x, y, z, v) = stops-as os (stored-good form ts q st (effect-sound (shown form ts) o (g .sound) (allowed (shown form ts) o e))) (ap (λ (c : ℕ). ltb (length ws) (2 * c)) (st .cells) ∙ w) next in
+      let (x, y, z, v) = stops-as os (stored-good form ts q st (effect-sound (shown form ts) o (g .sound) (allowed (shown form ts) o e))) (entry-alike workWords (length ws) form form (stored form ts q) ts (st .cells) ∙ w) next in
       rw (eq-eqb (refusal (shown form ts) o) DONE e) (
         x ∙ ap (λ (p : Pool). performed p os .answer) (st .shows),
         ap suc (y ∙ ap (λ (p : Pool). performed p os .done) (st .shows)),

@@ -2,6 +2,7 @@
 use mathlib.Core.Path.{sym, _∙_}
 use native.Mathlib.Omega.{arith}
 use borrow.Author.Needs.{needs}
+use Rattle.text.specs.laws.SizeLaws.{its-size}
 use Rattle.reading.specs.laws.ReadLaws.{Scans, occupied, faulty, no-room, taken, room, reads}
 use Rattle.reading.proofs.into.Statement.{statement}
 use Rattle.reading.proofs.into.Tie as tie
@@ -26,7 +27,7 @@ returns c =
     λ ws. occupied (start .pre .0) (start .args .h) (start .args .text .now) ws (λ q. c .before .if1 .taken (c .before .before .holder-of .ensures .0 ∙ q)) (c .refused .ensures)
 
 scan-requires : tie.Need-scan-requires
-scan-requires c κs = search needs
+scan-requires c κs = its-size _ (c .before .before .before .before .before .pre .1 .1 .1 .1)
 
 refused-requires-2 : tie.Need-refused-requires-2
 refused-requires-2 c κs = search needs

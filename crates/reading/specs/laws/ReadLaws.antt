@@ -1,44 +1,46 @@
 -- Reading, test by test: each answer of the code is the one that is asked.
 use mathlib.Core.Path.{_≡_, refl, sym, ap, _∙_, subst}
 use mathlib.Core.Logic.{_≢_}
-use mathlib.Core.Bool.{Bool, true, false, cond, not, _||_, true≢false}
+use mathlib.Core.Bool.{Bool, true, false, cond, not}
 use mathlib.Core.List.{List}
-use Prim.Native.Nat.{ℕ, _*_, _%_, _≤_, _<_}
+use Prim.Native.Nat.{ℕ, _≤_, _<_}
 use native.Mathlib.Omega.{arith}
-use borrow.Author.Tests.{eq-eqb, ne-eqb, le-leb, lt-leb, lt-ltb, le-ltb, ltb-false, eqb-true}
+use borrow.Author.Tests.{eq-eqb, ne-eqb, le-leb, lt-leb, lt-ltb, le-ltb}
 use lib.Dec.{eqb, ltb}
 use lib.ListN.{length}
-use Rattle.answers.specs.Answers.{DONE, TABLE-SIZE, WORK-SPACE, UNSOUND, HOLDER, OCCUPIED, NO-ROOM, TEXT-SIZE, END, refused, done}
+use Rattle.answers.specs.Answers.{DONE, UNSOUND, HOLDER, OCCUPIED, NO-ROOM, refused, done, unless}
+use Rattle.answers.specs.laws.Unless.{goes-on, refuses}
 use Rattle.answers.specs.declared.Outcome.{Outcome}
-use Rattle.calls.specs.Entry.{shown, used}
-use Rattle.calls.specs.Read.{Read, notRead, badText, readInto, readingIn}
+use Rattle.calls.specs.Entry.{workWords, entryFault, Provided, noHolder, unsound, used}
+use Rattle.calls.specs.Read.{Read, notRead, readInto, readingIn}
+use Rattle.calls.specs.laws.EntryLaws.{passed}
+use Rattle.entry.specs.laws.EntryLaws.{TurnedAway, judged}
 use Rattle.lists.specs.Lst.{extent}
-use Rattle.pool.specs.Check.{check}
+use Rattle.sound.specs.Decided.{Decided}
 use Rattle.pool.specs.Operations.{read}
 use Rattle.pool.specs.Pool.{holder, frees}
-use Rattle.scan.specs.Outcomes.{Sized, scannedAs}
-use Rattle.text.specs.laws.Accepted.{right-size}
+use Rattle.scan.specs.Outcomes.{scannedAs}
+use Rattle.text.specs.laws.SizeLaws.{right-size}
 use Rattle.scan.specs.declared.Scanned.{Scanned}
 use Rattle.table.specs.declared.Form.{Form}
-use Rattle.table.specs.Sizes.{cellsOf, shapeOf, cleared}
-use Rattle.table.specs.laws.SizesLaws.{cells-table, table-shape}
+use Rattle.table.specs.Sizes.{shapeOf}
+use Rattle.table.specs.laws.SizesLaws.{table-shape}
 use Rattle.table.specs.View.{holderCount, view, words, Table, Shows}
 use Rattle.table.specs.laws.WordsLaws.{shown-words}
 use Rattle.table.specs.declared.Shape.{Shape}
-use Rattle.text.specs.Limits.{recordBytes, textMost}
 use Rattle.text.specs.Marks.{listIn}
-use Rattle.text.specs.Text.{Answer, scanned, verdict}
+use Rattle.text.specs.Text.{Answer, scanned, sizeFault, verdict}
 use Rattle.reading.specs.Accepting.{Taken}
 use Rattle.calls.specs.Contracts.{Reads}
 
 -- a call that reads nothing
-nothing : {x : Read} {r : Outcome} (k : ℕ) (ts vs : List ℕ) → x ≡ notRead k ts vs → r ≡ refused k → Reads x r ts vs
-nothing {x} {r} k ts vs e a = subst (λ (y : Read). Reads y r ts vs) (sym e) (record { answer = a; table = refl; work = refl })
+nothing : {x : Read} {r : Outcome} (k : ℕ) (ts vs : List ℕ) → x ≡ notRead k ts vs → r ≡ refused k → Reads r ts vs x
+nothing {x} {r} k ts vs e a = subst (Reads r ts vs) (sym e) (record { outcome = a; table = refl; work = refl })
 
 -- a text of a right size is scanned for a null holder
 pub record Scans (s : Shape) (ts : List ℕ) (h : ℕ) (xs : List ℕ) (c : Scanned) : Type 0 where
   pub table : Table s ts
-  pub sized : Sized xs
+  pub sized : sizeFault xs ≡ DONE
   pub null : holder (view s ts) h ≡ 0
   pub told : c ≡ scannedAs xs
 
@@ -49,24 +51,24 @@ module _ {s : Shape} {ts : List ℕ} (t : Table s ts) (h : ℕ) (xs ws : List �
       let p = view u ts in
       let v = verdict xs in
       cond (not (eqb (holder p h) 0)) (notRead OCCUPIED ts (used (s .form) ts ws))
-      (cond (not (eqb (v .no) DONE)) (notRead (v .no) ts (used (s .form) ts ws))
+      (unless (v .no) (λ n. notRead n ts (used (s .form) ts ws))
       (cond (ltb (frees (p .cells)) (extent (listIn xs))) (notRead NO-ROOM ts (used (s .form) ts ws))
       (record { answer = DONE; count = v .taken; table = words u (read p h (listIn xs)); work = used (s .form) ts ws })))
 
   asked : readInto (s .form) ts ws h xs ≡ readOn s
   asked = ap readOn (table-shape s ts t)
 
-  pub occupied : {r : Outcome} → holder (view s ts) h ≢ 0 → r ≡ refused OCCUPIED → Reads (readInto (s .form) ts ws h xs) r ts (used (s .form) ts ws)
+  pub occupied : {r : Outcome} → holder (view s ts) h ≢ 0 → r ≡ refused OCCUPIED → Reads r ts (used (s .form) ts ws) (readInto (s .form) ts ws h xs)
   occupied n a = nothing OCCUPIED ts (used (s .form) ts ws) (asked ∙ simp (ne-eqb (holder (view s ts) h) 0 n)) a
 
 module _ {s : Shape} {ts : List ℕ} {h : ℕ} {xs : List ℕ} {c : Scanned} (k : Scans s ts h xs c) where
   as-scanned : scanned xs ≡ verdict xs
-  as-scanned = sym (right-size xs (k .sized .some) (k .sized .small) (k .sized .whole))
+  as-scanned = sym (right-size xs (k .sized))
 
   no : c .answer ≡ (verdict xs) .no
   no = ap (λ (x : Scanned). x .answer) (k .told) ∙ ap (λ (a : Answer). a .no) as-scanned
 
-  pub faulty : (ws : List ℕ) {r : Outcome} → c .answer ≢ 0 → r ≡ refused (c .answer) → Reads (readInto (s .form) ts ws h xs) r ts (used (s .form) ts ws)
+  pub faulty : (ws : List ℕ) {r : Outcome} → c .answer ≢ 0 → r ≡ refused (c .answer) → Reads r ts (used (s .form) ts ws) (readInto (s .form) ts ws h xs)
   faulty ws n a =
       let some : (verdict xs) .no ≢ 0 = λ q. n (no ∙ q) in
       nothing ((verdict xs) .no) ts (used (s .form) ts ws) (asked (k .table) h xs ws ∙ simp (eq-eqb (holder (view s ts) h) 0 (k .null), ne-eqb ((verdict xs) .no) 0 some)) (a ∙ ap refused no)
@@ -81,7 +83,7 @@ module _ {s : Shape} {ts : List ℕ} {h : ℕ} {xs : List ℕ} {c : Scanned} (k 
     counts : c .extent ≡ extent (listIn xs)
     counts = ap (λ (x : Scanned). x .extent) (k .told) ∙ (let q = ap (λ (a : Answer). a .no) as-scanned ∙ good in simp (eq-eqb _ _ q))
 
-    pub no-room : (ws : List ℕ) {r : Outcome} → frees (view s ts .cells) < c .extent → r ≡ refused NO-ROOM → Reads (readInto (s .form) ts ws h xs) r ts (used (s .form) ts ws)
+    pub no-room : (ws : List ℕ) {r : Outcome} → frees (view s ts .cells) < c .extent → r ≡ refused NO-ROOM → Reads r ts (used (s .form) ts ws) (readInto (s .form) ts ws h xs)
     no-room ws l a =
         let more : frees (view s ts .cells) < extent (listIn xs) = omega (arith, counts) in
         nothing NO-ROOM ts (used (s .form) ts ws) (asked (k .table) h xs ws ∙ simp (eq-eqb (holder (view s ts) h) 0 (k .null), eq-eqb ((verdict xs) .no) 0 good, lt-ltb _ _ more)) a
@@ -90,95 +92,55 @@ module _ {s : Shape} {ts : List ℕ} {h : ℕ} {xs : List ℕ} {c : Scanned} (k 
       pub room : extent (listIn xs) ≤ frees (view s ts .cells)
       room = omega (arith, counts)
 
-      pub reads : (ws us : List ℕ) {r : Outcome} → Shows s us (read (view s ts) h (listIn xs)) → r ≡ done (c .taken) → Reads (readInto (s .form) ts ws h xs) r us (used (s .form) ts ws)
+      pub reads : (ws us : List ℕ) {r : Outcome} → Shows s us (read (view s ts) h (listIn xs)) → r ≡ done (c .taken) → Reads r us (used (s .form) ts ws) (readInto (s .form) ts ws h xs)
       reads ws us {r} a b =
           let x : Read = record { answer = DONE; count = (verdict xs) .taken; table = words s (read (view s ts) h (listIn xs)); work = used (s .form) ts ws } in
           let q : readInto (s .form) ts ws h xs ≡ x = asked (k .table) h xs ws ∙ simp (eq-eqb (holder (view s ts) h) 0 (k .null), eq-eqb ((verdict xs) .no) 0 good, le-ltb _ _ room) in
           let bytes : c .taken ≡ (verdict xs) .taken = ap (λ (y : Scanned). y .taken) (k .told) ∙ ap (λ (v : Answer). v .taken) as-scanned in
-          subst (λ (y : Read). Reads y r us (used (s .form) ts ws)) (sym q) (record { answer = b ∙ ap done bytes; table = shown-words a; work = refl })
+          subst (Reads r us (used (s .form) ts ws)) (sym q) (record { outcome = b ∙ ap done bytes; table = shown-words a; work = refl })
 
--- a text of a right size
-pub sized : (xs : List ℕ) → badText xs ≡ false → length xs ≢ 0 → Sized xs
-sized xs e n = go (eqb (length xs % recordBytes) 0) (ltb textMost (length xs)) refl refl e
-  where
-    go : (a b : Bool) → eqb (length xs % recordBytes) 0 ≡ a → ltb textMost (length xs) ≡ b → (not a || b) ≡ false → Sized xs
-    go true false ea eb q = record { some = omega arith; small = ltb-false textMost (length xs) eb; whole = eqb-true (length xs % recordBytes) 0 ea }
-    go true true ea eb q = absurd (true≢false q)
-    go false b ea eb q = absurd (true≢false q)
+pub entry-refused : (f : Form) (ts ws : List ℕ) (h : ℕ) (xs : List ℕ) {r : Outcome} {n : ℕ} → TurnedAway workWords f ts (length ws) n → r ≡ refused n → Reads r ts ws (readingIn f ts ws h xs)
+unfolding readingIn
+entry-refused f ts ws h xs k g =
+    nothing (entryFault workWords f ts (length ws)) ts ws (refuses (entryFault workWords f ts (length ws)) (λ (n : ℕ). notRead n ts ws) _ (k .some)) (g ∙ ap refused (k .is))
 
--- the table that the code has found
-pub its-table : (f : Form) (ts : List ℕ) (s : Shape) → s ≡ shapeOf f ts → s .cells ≢ 0 → Table s ts
-its-table f ts s e some = subst (λ (z : Shape). Table z ts) (sym e) (cells-table f ts (λ q. some (ap (λ (z : Shape). z .cells) e ∙ q)))
+-- the form of the shape is the form that was named
+pub of-form : {f g : Form} (ts ws : List ℕ) (h : ℕ) (xs : List ℕ) {r : Outcome} {us vs : List ℕ} → g ≡ f → Reads r us vs (readingIn g ts ws h xs) → Reads r us vs (readingIn f ts ws h xs)
+of-form ts ws h xs {r} {us} {vs} e k = subst (λ (f : Form). Reads r us vs (readingIn f ts ws h xs)) e k
 
--- the table and the work space are of a right size, and the holder is one
-pub record Entered (f : Form) (ts ws : List ℕ) (h : ℕ) (s : Shape) : Type 0 where
-  pub is : s ≡ shapeOf f ts
-  pub some : s .cells ≢ 0
-  pub long : 2 * s .cells ≤ length ws
-  pub held : h < holderCount (shapeOf f ts)
+module _ {s : Shape} {ts : List ℕ} (ws : List ℕ) (h : ℕ) (xs : List ℕ) (o : Provided workWords s ts (length ws)) where
+  held-by : holderCount (shapeOf (s .form) ts) ≡ s .holders
+  held-by = ap (λ (z : Shape). z .holders) (table-shape s ts (o .table))
 
--- and a text of a right size is there
-pub record Lent (f : Form) (ts ws : List ℕ) (h : ℕ) (xs : List ℕ) (s : Shape) : Type 0 where
-  pub entered : Entered f ts ws h s
-  pub whole : badText xs ≡ false
-  pub text : length xs ≢ 0
+  -- past the entry, and past the holder
+  abbrev sizing : Read
+  sizing = unless (sizeFault xs) (λ n. notRead n ts ws) (cond (unsound (s .form) ts) (notRead UNSOUND ts (used (s .form) ts ws)) (readInto (s .form) ts ws h xs))
 
--- the tests before
-module _ (f : Form) (ts ws : List ℕ) (h : ℕ) (xs : List ℕ) {n : ℕ} (e : n ≡ cellsOf f ts) where
-  pub bad-table : {r : Outcome} → n ≡ 0 → r ≡ refused TABLE-SIZE → Reads (readingIn f ts ws h xs) r ts ws
+  enters : {b : Bool} → noHolder (s .form) ts h ≡ b → readingIn (s .form) ts ws h xs ≡ cond b (notRead HOLDER ts ws) sizing
   unfolding readingIn
-  bad-table z = nothing TABLE-SIZE ts ws (simp (eq-eqb (cellsOf f ts) 0 (sym e ∙ z)))
+  enters e =
+      goes-on (entryFault workWords (s .form) ts (length ws)) (λ (n : ℕ). notRead n ts ws) _ (passed (o .table) workWords (length ws) (o .long))
+      ∙ (λ i. cond (e i) (notRead HOLDER ts ws) sizing)
 
-  module _ (some : n ≢ 0) where
-    cells : cellsOf f ts ≢ 0
-    cells q = some (e ∙ q)
+  pub no-holder : s .holders ≤ h → {r : Outcome} → r ≡ refused HOLDER → Reads r ts ws (readingIn (s .form) ts ws h xs)
+  no-holder l = nothing HOLDER ts ws (enters (le-leb (holderCount (shapeOf (s .form) ts)) h (omega (arith, held-by))))
 
-    pub bad-work : {r : Outcome} → length ws < 2 * n → r ≡ refused WORK-SPACE → Reads (readingIn f ts ws h xs) r ts ws
-    unfolding readingIn
-    bad-work l = nothing WORK-SPACE ts ws (simp (ne-eqb (cellsOf f ts) 0 cells, lt-ltb (length ws) (2 * cellsOf f ts) (omega arith)))
+  module _ (l : h < s .holders) where
+    held : readingIn (s .form) ts ws h xs ≡ sizing
+    held = enters (lt-leb (holderCount (shapeOf (s .form) ts)) h (omega (arith, held-by)))
 
-    pub no-holder : {r : Outcome} → 2 * n ≤ length ws → holderCount (shapeOf f ts) ≤ h → r ≡ refused HOLDER → Reads (readingIn f ts ws h xs) r ts ws
-    unfolding readingIn
-    no-holder long l =
-        nothing HOLDER ts ws (simp (ne-eqb (cellsOf f ts) 0 cells, le-ltb (length ws) (2 * cellsOf f ts) (omega arith), le-leb (holderCount (shapeOf f ts)) h l))
+    pub wrong-size : {n : ℕ} → n ≡ sizeFault xs → n ≢ DONE → {r : Outcome} → r ≡ refused n → Reads r ts ws (readingIn (s .form) ts ws h xs)
+    wrong-size e d g = nothing (sizeFault xs) ts ws (held ∙ refuses (sizeFault xs) (λ (n : ℕ). notRead n ts ws) _ (λ z. d (e ∙ z))) (g ∙ ap refused e)
 
-module _ {f : Form} {ts ws : List ℕ} {h : ℕ} {s : Shape} (k : Entered f ts ws h s) (xs : List ℕ) where
-  -- what is asked once these tests are passed
-  abbrev readTexts : Read
-  readTexts =
-      cond (badText xs) (notRead TEXT-SIZE ts ws)
-      (cond (eqb (length xs) 0) (notRead END ts ws) (cond (not (check (shown f ts))) (notRead UNSOUND ts (used f ts ws)) (readInto f ts ws h xs)))
+    module _ (z : sizeFault xs ≡ DONE) {us : List ℕ} {b : Bool} (d : Decided s ts ws us b) where
+      goes : {a : Bool} → not b ≡ a → readingIn (s .form) ts ws h xs ≡ cond a (notRead UNSOUND ts us) (readInto (s .form) ts ws h xs)
+      goes e =
+          let j = judged (o .table) d in
+          held ∙ goes-on (sizeFault xs) (λ (n : ℕ). notRead n ts ws) _ z
+          ∙ (λ i. cond ((j .0 ∙ e) i) (notRead UNSOUND ts (sym (j .1) i)) (readInto (s .form) ts ws h xs))
 
-  passed : readingIn f ts ws h xs ≡ readTexts
-  unfolding readingIn
-  passed =
-      let same : s .cells ≡ cellsOf f ts = ap (λ (z : Shape). z .cells) (k .is) in
-      let some : cellsOf f ts ≢ 0 = λ q. k .some (same ∙ q) in
-      let long : 2 * cellsOf f ts ≤ length ws = omega (arith, same, k .long) in
-      simp (ne-eqb (cellsOf f ts) 0 some, le-ltb (length ws) (2 * cellsOf f ts) long, lt-leb (holderCount (shapeOf f ts)) h (k .held))
+      pub not-sound : not b ≡ true → {r : Outcome} → r ≡ refused UNSOUND → Reads r ts us (readingIn (s .form) ts ws h xs)
+      not-sound e = nothing UNSOUND ts us (goes e)
 
-  pub bad-text : {r : Outcome} → badText xs ≡ true → r ≡ refused TEXT-SIZE → Reads (readingIn f ts ws h xs) r ts ws
-  bad-text b = nothing TEXT-SIZE ts ws (passed ∙ simp b)
-
-  pub no-text : {r : Outcome} → badText xs ≡ false → length xs ≡ 0 → r ≡ refused END → Reads (readingIn f ts ws h xs) r ts ws
-  no-text b z = nothing END ts ws (passed ∙ simp (b, eq-eqb (length xs) 0 z))
-
-module _ {f : Form} {ts ws : List ℕ} {h : ℕ} {xs : List ℕ} {s : Shape} (k : Lent f ts ws h xs s) {us : List ℕ} (work : us ≡ cleared (2 * s .cells) ws) where
-  e : s ≡ shapeOf f ts
-  e = k .entered .is
-
-  clean : us ≡ used f ts ws
-  clean = work ∙ ap (λ (z : Shape). cleared (2 * z .cells) ws) e
-
-  checked : {b : Bool} → check (view s ts) ≡ b → readingIn f ts ws h xs ≡ cond (not b) (notRead UNSOUND ts (used f ts ws)) (readInto f ts ws h xs)
-  checked {b} q =
-      let same : check (shown f ts) ≡ b = ap (λ (z : Shape). check (view z ts)) (sym e) ∙ q in
-      passed (k .entered) xs ∙ simp (k .whole, ne-eqb (length xs) 0 (k .text), same)
-
-  pub not-sound : {r : Outcome} → check (view s ts) ≡ false → r ≡ refused UNSOUND → Reads (readingIn f ts ws h xs) r ts us
-  not-sound {r} b a = subst (Reads (readingIn f ts ws h xs) r ts) (sym clean) (nothing UNSOUND ts (used f ts ws) (checked b) a)
-
-  pub all-passed : {r : Outcome} {vs : List ℕ} → check (view s ts) ≡ true → Reads (readInto (s .form) ts ws h xs) r vs (used (s .form) ts ws) → Reads (readingIn f ts ws h xs) r vs us
-  all-passed {r} {vs} b a =
-      let a′ : Reads (readInto f ts ws h xs) r vs (used f ts ws) = subst (λ (z : Shape). Reads (readInto (z .form) ts ws h xs) r vs (used (z .form) ts ws)) e a in
-      subst (Reads (readingIn f ts ws h xs) r vs) (sym clean) (subst (λ (y : Read). Reads y r vs (used f ts ws)) (sym (checked b)) a′)
+      pub all-passed : not b ≡ false → {r : Outcome} {vs : List ℕ} → Reads r vs (used (s .form) ts ws) (readInto (s .form) ts ws h xs) → Reads r vs us (readingIn (s .form) ts ws h xs)
+      all-passed e {r} {vs} k = subst (Reads r vs us) (sym (goes e)) (subst (λ (w : List ℕ). Reads r vs w (readInto (s .form) ts ws h xs)) (sym (judged (o .table) d .1)) k)

@@ -22,7 +22,7 @@ abbrev μ-loop : tie.MeasureT-loop
 room : (c : tie.In-loop Inv-loop μ-loop) → (4 * c .before .loop .i + 4 ≤ length (c .before .before .before .before .before .args .script .now)) × (2 * c .before .loop .i + 2 ≤ length (c .before .loop .results))
 room c =
     let c0 = c .before .before .before .before .before in
-    (omega (arith, c .loop-test, c0 .pre .1 .1 .0), omega (arith, c .loop-test, c0 .pre .1 .1, c .before .loop .inv .0 .size))
+    (omega (arith, c .loop-test, c0 .pre .1 .1 .whole), omega (arith, c .loop-test, c0 .pre .1 .1, c .before .loop .inv .0 .size))
 
 loop-holds : tie.Need-loop-holds Inv-loop μ-loop
 loop-holds c = (begun (c .before .before .before .args .s) (c .before .before .before .args .script .now) (c .before .before .before .args .results .now) (c .before .before .before .args .table .now) (c .before .before .before .pre .0) (c .before .before .before .pre .1 .0), omega arith)
@@ -34,7 +34,7 @@ enum-known-reply : tie.Need-enum-known-reply Inv-loop μ-loop
 enum-known-reply c = search needs
 
 cast-stopped : tie.Need-cast-stopped Inv-loop μ-loop
-cast-stopped c = omega (arith, c .before .before .before .before .before .before .before .loop-test, c .before .before .before .before .before .before .before .before .before .before .before .before .pre .1 .1 .0 .1)
+cast-stopped c = omega (arith, c .before .before .before .before .before .before .before .loop-test, c .before .before .before .before .before .before .before .before .before .before .before .before .pre .1 .1 .few)
 
 stopped-requires : tie.Need-stopped-requires Inv-loop μ-loop
 stopped-requires c κs = search needs
@@ -68,7 +68,7 @@ loop-again c =
     (rw (c .before .before .write-at .ensures) (onward (c .before .before .before .before .before .before .before .before .before .before .before .before .loop .inv .0) (room (c .before .before .before .before .before .before .before .before .before .before .before) .0) (room (c .before .before .before .before .before .before .before .before .before .before .before) .1) (rw (c .before .before .before .before .before .reply2 .given .1) at g)), omega (arith, c .before .before .before .before .before .before .before .before .before .before .before .loop-test))
 
 cast-done : tie.Need-cast-done Inv-loop μ-loop
-cast-done c = omega (arith, c .before .before .before .before .before .pre .1 .1 .0 .1)
+cast-done c = omega (arith, c .before .before .before .before .before .pre .1 .1 .few)
 
 done-requires : tie.Need-done-requires Inv-loop μ-loop
 done-requires c κs = search needs
@@ -84,7 +84,7 @@ returns-2 c =
     let c0 = c .before .before .before .before .before .before in
     let l = c .before .before .loop in
     let e : l .i ≡ length (c0 .args .script .now) / 4 = omega (arith, c .before .loop-test, l .inv .1) in
-    rw (c .done .ensures, ← e) (all-done (l .inv .0) (omega (arith, e, c0 .pre .1 .1 .0 .0)) (omega (arith, e, l .inv .0 .size, c0 .pre .1 .1 .1)))
+    rw (c .done .ensures, ← e) (all-done (l .inv .0) (omega (arith, e, c0 .pre .1 .1 .whole)) (omega (arith, e, l .inv .0 .size, c0 .pre .1 .1 .room)))
 
 pub perform-all-spec : {M : Type 1} → statement M
 perform-all-spec =

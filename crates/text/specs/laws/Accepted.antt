@@ -6,12 +6,14 @@ use mathlib.Core.Bool.{Bool, true, false, cond}
 use native.Mathlib.Omega.{arith}
 use lib.ListN.{length, length-append, take}
 use lib.Dec.{eqb, leb, ltb}
-use borrow.Author.Tests.{leb-true, eq-eqb, ne-eqb, le-leb}
+use Rattle.answers.specs.Answers.{DONE}
+use Rattle.answers.specs.laws.Unless.{both-ways}
 use Rattle.lists.specs.Lst.{extent}
 use Rattle.text.specs.Limits.{levels, recordBytes, textMost, digitsMost, atomsEnd}
-use Rattle.text.specs.Text.{Scan, begin, mayOpen, mayShut, mayPart, mayBegin, isAtom, isOver, Step, mark, fault, State, at, refused, taken, next, run, settle, stepOf, Answer, answer, scanned, verdict, done, refusal}
+use Rattle.text.specs.Text.{Scan, begin, mayOpen, mayShut, mayPart, mayBegin, isAtom, isOver, Step, mark, fault, State, at, refused, taken, next, run, settle, stepOf, Answer, answer, scanned, sizeFault, verdict, done, refusal}
 use Rattle.text.specs.ListText.{textOf, bare}
 use Rattle.text.specs.Marks.{marksOf, trace, listIn, beginnings}
+use Rattle.text.specs.laws.SizeLaws.{its-size}
 use Rattle.text.specs.laws.TextLaws.{by-case}
 use Rattle.text.specs.laws.MarkLaws.{beginnings-extent}
 use Rattle.text.specs.laws.Front.{front}
@@ -88,27 +90,13 @@ unfolding scanned
 scanned-run s m e = answer-taken (run (at begin 0) s) m (run-honest s (at begin 0) tt) e
 
 -- the size was right
-past : (t : Bool) (k : ℕ) (a : Answer) (m : ℕ) → cond t a (refusal (suc k)) ≡ done m → (t ≡ true) × (a ≡ done m)
-past true k a m e = (refl, e)
-past false k a m e = let z : suc k ≡ 0 = ap (λ (x : Answer). x .no) e in absurd (omega arith)
-
-past-first : (t : Bool) (k : ℕ) (a : Answer) (m : ℕ) → cond t (refusal (suc k)) a ≡ done m → a ≡ done m
-past-first true k a m e = let z : suc k ≡ 0 = ap (λ (x : Answer). x .no) e in absurd (omega arith)
-past-first false k a m e = e
+pub accepted-size : (s : List ℕ) (m : ℕ) → verdict s ≡ done m → (sizeFault s ≡ DONE) × (scanned s ≡ done m)
+unfolding verdict
+accepted-size s m = both-ways (sizeFault s) refusal (scanned s) (λ (a : Answer). a ≡ done m → (sizeFault s ≡ DONE) × (scanned s ≡ done m))
+    (λ n e. absurd (n (ap (λ (a : Answer). a .no) e))) (λ z e. (z, e))
 
 pub sized : (s : List ℕ) (m : ℕ) → verdict s ≡ done m → (length s ≤ textMost) × (scanned s ≡ done m)
-unfolding verdict
-sized s m e =
-    let some = cond (eqb (length s) 0) (refusal 14) (scanned s) in
-    let whole = past (eqb (length s % recordBytes) 0) 12 (cond (leb (length s) textMost) some (refusal 13)) m e in
-    let fits = past (leb (length s) textMost) 12 some m (whole .1) in
-    (leb-true _ _ (fits .0), past-first (eqb (length s) 0) 13 (scanned s) m (fits .1))
-
-pub right-size : (s : List ℕ) → 0 < length s → length s ≤ textMost → length s % recordBytes ≡ 0 → verdict s ≡ scanned s
-unfolding verdict
-right-size s h small whole =
-    let some : length s ≡ 0 → ⊥ = λ z. omega arith in
-    simp (eq-eqb _ _ whole, le-leb _ _ small, ne-eqb _ _ some)
+sized s m e = let (z, q) = accepted-size s m e in (its-size s z .small, q)
 
 pub taken-run : (s : List ℕ) (m : ℕ) → verdict s ≡ done m → run (at begin 0) s ≡ taken m
 taken-run s m e = scanned-run s m ((sized s m e) .1)

@@ -7,12 +7,13 @@ use mathlib.Core.Bool.{true, false, cond}
 use native.Mathlib.Omega.{arith}
 use lib.ListN.{length, length-append, replicate, length-replicate}
 use lib.Dec.{ltb}
-use borrow.Author.Tests.{lt-ltb, le-ltb, le-leb, eq-eqb, ne-eqb, ltb-true}
+use borrow.Author.Tests.{lt-ltb, le-ltb, eq-eqb, ne-eqb, ltb-true}
 use Rattle.lists.specs.Lst.{Lst, nil, atom, list, order, Atoms}
 use Rattle.text.specs.Limits.{levels, recordBytes, textMost, digitsMost, atomsEnd}
 use Rattle.text.specs.Text.{Scan, place, begin, afterOpen, afterComma, inAtom, afterElement, afterAll, mayOpen, mayShut, mayPart, mayBegin, mark, State, at, taken, next, run, settle, digitAt, moreAt, answer, scanned, verdict, done}
 use Rattle.text.specs.ListText.{octalF, octal, items, textOf, fill, written}
 use Rattle.text.specs.Marks.{Mark, opened, shut, value, marksOf, pending, met, trace, pushes, topOf, listIn}
+use Rattle.text.specs.laws.SizeLaws.{no-fault, right-size}
 use Rattle.text.specs.laws.TextLaws.{by-case, run-append, digit-step}
 use Rattle.text.specs.laws.MarkLaws.{built, trace-append, trace-blanks, digit-met}
 
@@ -195,7 +196,7 @@ items-pos (list m l) = omega arith
 
 pub write-read : (l : Lst) → order l ≤ levels → Atoms l → length (written l) ≤ textMost
     → (verdict (written l) ≡ done (length (written l))) × (listIn (written l) ≡ l)
-unfolding ended verdict scanned listIn
+unfolding ended scanned listIn
 write-read l h a room =
     let w = (reads l) .1 begin 0 refl (omega arith, a) in
     let m = length (textOf l) in
@@ -211,6 +212,6 @@ write-read l h a room =
     ∙ ap (λ (es : List Mark). marksOf true l ++ es) (trace-blanks k (run (at begin 0) (textOf l))) ∙ append-nil (marksOf true l) in
     let e1 : length (written l) % recordBytes ≡ 0 = ap (λ (j : ℕ). j % recordBytes) size ∙ even in
     let e3 : length (written l) ≡ 0 → ⊥ = λ q. omega (arith, items-pos l) in (
-      simp (eq-eqb _ _ e1, le-leb _ _ room, ne-eqb _ _ e3) (ap answer takes ∙ ap done (sym size)),
+      right-size (written l) (no-fault (written l) e1 room (ne-eqb (length (written l)) 0 e3)) ∙ ap answer takes ∙ ap done (sym size),
       ap (λ (es : List Mark). topOf (pushes es [])) marks ∙ ap topOf (built l),
     )

@@ -36,7 +36,7 @@ returns c =
     let a = c .before .before .before .before .before .before .before .args in
     let cs = view (a .s) (a .t .now) .cells in
     let m = c .before .before .before .measure in
-    λ ws. list-refused (listAt cs _) ws _ _ _
+    λ ws. list-refused (listAt cs _) ws _ _
     (m .ensures .answer ∙ ap (λ (u : ℕ). judged u 0 (textAt cs (a .x))) (c .before .before .before .before .usable .ensures)) (c .before .if1 .taken)
     (c .refused .ensures)
 
@@ -78,7 +78,7 @@ returns-2 c =
     let u = else1 .before .before .before .usable in
     let f = fits else1 in
     let z = sym (ap (λ (k : ℕ). judged k 0 (textAt cs (a .x))) (u .ensures)) ∙ sym (m .ensures .answer) ∙ else1 .if1 .left in
-    λ ws. list-done (listAt cs _) ws _ _ _ _ _ _ z (f .0 .size)
+    λ ws. list-done (listAt cs _) ws _ _ _ _ _ z (f .0 .size)
     (after-fill .before .before .record-end .ensures) (after-put .put .ensures) (after-fill .fill .ensures) (c .done .ensures)
 
 pub write-list-spec : {M : Type 1} → statement M

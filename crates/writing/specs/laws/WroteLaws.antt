@@ -1,35 +1,38 @@
 -- What a call that writes gives at each return, against the definition of writing.
 use Prim.Native.Nat.{ℕ, _+_, _-_, _*_, _%_, _≤_, _<_}
-use mathlib.Core.Path.{_≡_, sym, ap, subst, _∙_}
+use mathlib.Core.Path.{_≡_, refl, sym, ap, subst, _∙_}
 use mathlib.Core.Logic.{_≢_}
-use mathlib.Core.Bool.{true, false}
+use mathlib.Core.Bool.{Bool, true, false, cond, not}
 use mathlib.Core.List.{List, _++_}
 use native.Mathlib.Omega.{arith}
-use lib.Dec.{eqb, leb, ltb}
 use lib.ListN.{length, take, drop, replicate, length-append, length-replicate}
 use lib.Seq.{paste, take-append-seam, take-all, drop-append-add, drop-drop}
-use borrow.Author.Tests.{eq-eqb, ne-eqb, lt-ltb, le-ltb, le-leb, lt-leb}
-use Rattle.answers.specs.Answers.{DONE, TABLE-SIZE, WORK-SPACE, HOLDER, UNSOUND, refused, done}
+use borrow.Author.Tests.{le-leb, lt-leb}
+use Rattle.answers.specs.Answers.{DONE, HOLDER, UNSOUND, refused, done}
+use Rattle.answers.specs.laws.Unless.{goes-on, refuses}
 use Rattle.answers.specs.declared.Outcome.{Outcome}
-use Rattle.calls.specs.Entry.{over, shown}
+use Rattle.calls.specs.Entry.{workWords, entryFault, Provided, noHolder, shown, unsound, used, over}
 use Rattle.calls.specs.Write.{Write, writeList, writingIn, notWritten}
+use Rattle.calls.specs.Contracts.{Writes}
+use Rattle.calls.specs.laws.EntryLaws.{passed}
+use Rattle.entry.specs.laws.EntryLaws.{TurnedAway, judged}
 use Rattle.lists.specs.Lst.{Lst}
-use Rattle.pool.specs.Check.{check}
 use Rattle.pool.specs.Operations.{listOf}
 use Rattle.pool.specs.Pool.{Cell, Pool, ListAt, holder, Sound}
 use Rattle.pool.specs.laws.Reach.{path-le, listFrom-is}
 use Rattle.pool.specs.laws.SoundLaws.{denoted, sound-held}
 use Rattle.table.specs.declared.Form.{Form}
 use Rattle.table.specs.declared.Shape.{Shape}
-use Rattle.table.specs.Sizes.{cellsOf, shapeOf, cleared}
+use Rattle.sound.specs.Decided.{Decided}
+use Rattle.table.specs.Sizes.{shapeOf}
+use Rattle.table.specs.laws.SizesLaws.{table-shape}
 use Rattle.table.specs.View.{holderCount, view}
 use Rattle.text.specs.Limits.{recordBytes, textMost}
-use Rattle.text.specs.ListText.{textOf, fill}
-use Rattle.text.specs.Writing.{usable, judged}
+use Rattle.text.specs.ListText.{textOf, fill, written}
+use Rattle.text.specs.Writing.{usable, judged as judgement}
 use Rattle.text.specs.laws.WritingLaws.{writable, writes}
 use Rattle.writing.specs.declared.walk.Measured.{Measured}
 use Rattle.writing.specs.Measures.{listAt, Stands, Measures, Fitting}
-use Rattle.calls.specs.Contracts.{wrote}
 use Rattle.writing.specs.RecordEnd.{recordEnd}
 
 -- a holder of a sound pool
@@ -57,14 +60,19 @@ filled t xs bs k e =
     ∙ ap (λ (a : List ℕ). (t ++ a) ++ drop (length t + k) (t ++ rest)) (take-all k bs (omega arith))
     ∙ ap (λ (a : List ℕ). (t ++ bs) ++ a) (drop-append-add t rest k ∙ drop-drop k (length t) xs ∙ ap (λ (j : ℕ). drop j xs) (sym n))
 
-module _ (l : Lst) (ws xs : List ℕ) (r : Outcome) where
-  pub list-refused : (n : ℕ) → n ≡ judged (usable (length xs)) 0 (textOf l) → n ≢ 0 → r ≡ refused n → wrote r ws xs ≡ writeList l ws xs
-  list-refused n e z q =
-      ap (λ (o : Outcome). wrote o ws xs) q ∙ ap (λ (k : ℕ). notWritten k ws xs) e
-      ∙ rw (ne-eqb (judged (usable (length xs)) 0 (textOf l)) 0 (λ y. z (e ∙ y)))
+-- a call that writes nothing
+nothing : {ws xs : List ℕ} {q : Write} {r : Outcome} (k : ℕ) → q ≡ notWritten k ws xs → r ≡ refused k → Writes r ws xs q
+nothing k e g = rw (e, g) (record { outcome = refl; work = refl; output = refl })
 
-  pub list-done : (out zs : List ℕ) (n e : ℕ) → judged (usable (length xs)) 0 (textOf l) ≡ 0 → n ≡ length (textOf l) → e ≡ recordEnd n → out ≡ over (textOf l) xs → zs ≡ paste out n (replicate (e - n) 32) (e - n) → r ≡ done e → wrote r ws zs ≡ writeList l ws xs
-  list-done out zs n e j m c o f q =
+-- the list l
+module _ (l : Lst) (ws xs : List ℕ) {r : Outcome} where
+  pub list-refused : (n : ℕ) → n ≡ judgement (usable (length xs)) 0 (textOf l) → n ≢ 0 → r ≡ refused n → Writes r ws xs (writeList l ws xs)
+  list-refused n e z g = nothing (judgement (usable (length xs)) 0 (textOf l))
+      (refuses (judgement (usable (length xs)) 0 (textOf l)) (λ (k : ℕ). notWritten k ws xs) _ (λ y. z (e ∙ y))) (g ∙ ap refused e)
+
+  pub list-done : (out zs : List ℕ) (n e : ℕ) → judgement (usable (length xs)) 0 (textOf l) ≡ 0 → n ≡ length (textOf l) → e ≡ recordEnd n → out ≡ over (textOf l) xs
+      → zs ≡ paste out n (replicate (e - n) 32) (e - n) → r ≡ done e → Writes r ws zs (writeList l ws xs)
+  list-done out zs n e j m c o f g =
       let t = textOf l in
       let blanks : List ℕ = replicate (e - n) 32 in
       let size : length blanks ≡ e - n = length-replicate {A = ℕ} (e - n) 32 in
@@ -72,54 +80,50 @@ module _ (l : Lst) (ws xs : List ℕ) (r : Outcome) where
       let is : blanks ≡ fill (length t) = ap (λ (i : ℕ). replicate i 32) k in
       let count : e ≡ length (t ++ blanks) = omega (arith, length-append t blanks) in
       let output : zs ≡ over (t ++ blanks) xs = f ∙ ap (λ (a : List ℕ). paste a n blanks (e - n)) o ∙ ap (λ (i : ℕ). paste (over t xs) i blanks (e - n)) m ∙ filled t xs blanks (e - n) size in
-      let told : List ℕ → Write = λ b. record { answer = DONE; count = length (t ++ b); work = ws; output = over (t ++ b) xs } in
-      ap (λ (r : Outcome). wrote r ws zs) q ∙ ap (λ (i : ℕ). wrote (done i) ws zs) count ∙ ap (wrote (done (length (t ++ blanks))) ws) output ∙ ap told is
-      ∙ rw (eq-eqb (judged (usable (length xs)) 0 t) 0 j)
+      rw (goes-on (judgement (usable (length xs)) 0 t) (λ (i : ℕ). notWritten i ws xs) (record { answer = DONE; count = length (written l); work = ws; output = over (written l) xs }) j)
+      (record {
+        outcome = g ∙ ap done (count ∙ ap (λ (b : List ℕ). length (t ++ b)) is);
+        work = refl;
+        output = output ∙ ap (λ (b : List ℕ). over (t ++ b) xs) is;
+      })
 
--- the calls' first tests
-module _ (f : Form) (ts ws xs : List ℕ) (h : ℕ) (s : Shape) (is : s ≡ shapeOf f ts) (r : Outcome) where
-  cells : s .cells ≡ cellsOf f ts
-  cells = ap (λ (z : Shape). z .cells) is
+pub entry-refused : (f : Form) (ts ws : List ℕ) (h : ℕ) (xs : List ℕ) {r : Outcome} {n : ℕ} → TurnedAway workWords f ts (length ws) n → r ≡ refused n → Writes r ws xs (writingIn f ts ws h xs)
+unfolding writingIn
+entry-refused f ts ws h xs k g =
+    nothing (entryFault workWords f ts (length ws)) (refuses (entryFault workWords f ts (length ws)) (λ (n : ℕ). notWritten n ws xs) _ (k .some)) (g ∙ ap refused (k .is))
 
-  held-by : s .holders ≡ holderCount (shapeOf f ts)
-  held-by = ap (λ (z : Shape). z .holders) is
+-- the form of the shape is the form that was named
+pub of-form : {f g : Form} (ts ws : List ℕ) (h : ℕ) (xs : List ℕ) {r : Outcome} {us zs : List ℕ} → g ≡ f → Writes r us zs (writingIn g ts ws h xs) → Writes r us zs (writingIn f ts ws h xs)
+of-form ts ws h xs {r} {us} {zs} e k = subst (λ (f : Form). Writes r us zs (writingIn f ts ws h xs)) e k
 
-  pub no-table : s .cells ≡ 0 → r ≡ refused TABLE-SIZE → wrote r ws xs ≡ writingIn f ts ws h xs
+module _ {s : Shape} {ts : List ℕ} (ws : List ℕ) (h : ℕ) (xs : List ℕ) (o : Provided workWords s ts (length ws)) where
+  held-by : holderCount (shapeOf (s .form) ts) ≡ s .holders
+  held-by = ap (λ (z : Shape). z .holders) (table-shape s ts (o .table))
+
+  -- past the entry
+  abbrev onward : Write
+  onward = cond (unsound (s .form) ts) (notWritten UNSOUND (used (s .form) ts ws) xs) (writeList (listOf (shown (s .form) ts) h) (used (s .form) ts ws) xs)
+
+  enters : {b : Bool} → noHolder (s .form) ts h ≡ b → writingIn (s .form) ts ws h xs ≡ cond b (notWritten HOLDER ws xs) onward
   unfolding writingIn
-  no-table z q = ap (λ (o : Outcome). wrote o ws xs) q ∙ rw (eq-eqb (cellsOf f ts) 0 (sym cells ∙ z))
+  enters e =
+      goes-on (entryFault workWords (s .form) ts (length ws)) (λ (n : ℕ). notWritten n ws xs) _ (passed (o .table) workWords (length ws) (o .long))
+      ∙ (λ i. cond (e i) (notWritten HOLDER ws xs) onward)
 
-  module _ (some : s .cells ≢ 0) where
-    table-test : eqb (cellsOf f ts) 0 ≡ false
-    table-test = ne-eqb (cellsOf f ts) 0 (λ z. some (cells ∙ z))
+  pub no-holder : s .holders ≤ h → {r : Outcome} → r ≡ refused HOLDER → Writes r ws xs (writingIn (s .form) ts ws h xs)
+  no-holder l g = nothing HOLDER (enters (le-leb (holderCount (shapeOf (s .form) ts)) h (omega (arith, held-by)))) g
 
-    pub no-space : length ws < 2 * s .cells → r ≡ refused WORK-SPACE → wrote r ws xs ≡ writingIn f ts ws h xs
-    unfolding writingIn
-    no-space l q = ap (λ (o : Outcome). wrote o ws xs) q ∙ rw (table-test, lt-ltb (length ws) (2 * cellsOf f ts) (omega (arith, cells)))
+  module _ (l : h < s .holders) {us : List ℕ} {b : Bool} (d : Decided s ts ws us b) where
+    goes : {a : Bool} → not b ≡ a → writingIn (s .form) ts ws h xs ≡ cond a (notWritten UNSOUND us xs) (writeList (listOf (view s ts) h) us xs)
+    goes e =
+        let j = judged (o .table) d in
+        enters (lt-leb (holderCount (shapeOf (s .form) ts)) h (omega (arith, held-by)))
+        ∙ (λ i. cond ((j .0 ∙ e) i) (notWritten UNSOUND (sym (j .1) i) xs) (writeList (listOf (view (table-shape s ts (o .table) i) ts) h) (sym (j .1) i) xs))
 
-    module _ (space : 2 * s .cells ≤ length ws) where
-      space-test : ltb (length ws) (2 * cellsOf f ts) ≡ false
-      space-test = le-ltb (length ws) (2 * cellsOf f ts) (omega (arith, cells))
+    pub not-sound : not b ≡ true → {r : Outcome} → r ≡ refused UNSOUND → Writes r us xs (writingIn (s .form) ts ws h xs)
+    not-sound e g = nothing UNSOUND (goes e) g
 
-      pub no-holder : s .holders ≤ h → r ≡ refused HOLDER → wrote r ws xs ≡ writingIn f ts ws h xs
-      unfolding writingIn
-      no-holder l q = ap (λ (o : Outcome). wrote o ws xs) q ∙ rw (table-test, space-test, le-leb (holderCount (shapeOf f ts)) h (omega (arith, held-by)))
-
-      module _ (held : h < s .holders) (us : List ℕ) (cleans : us ≡ cleared (2 * s .cells) ws) where
-        holder-test : leb (holderCount (shapeOf f ts)) h ≡ false
-        holder-test = lt-leb (holderCount (shapeOf f ts)) h (omega (arith, held-by))
-
-        clean : us ≡ cleared (2 * cellsOf f ts) ws
-        clean = cleans ∙ ap (λ (k : ℕ). cleared (2 * k) ws) cells
-
-        pub not-sound : check (view s ts) ≡ false → r ≡ refused UNSOUND → wrote r us xs ≡ writingIn f ts ws h xs
-        unfolding writingIn
-        not-sound z q =
-            let bad : check (shown f ts) ≡ false = ap (λ (k : Shape). check (view k ts)) (sym is) ∙ z in
-            ap (λ (o : Outcome). wrote o us xs) q ∙ ap (λ (vs : List ℕ). notWritten UNSOUND vs xs) clean ∙ rw (table-test, space-test, holder-test, bad)
-
-        pub accepted : (zs : List ℕ) → check (view s ts) ≡ true → wrote r us zs ≡ writeList (listOf (view s ts) h) us xs → wrote r us zs ≡ writingIn f ts ws h xs
-        unfolding writingIn
-        accepted zs z q =
-            let good : check (shown f ts) ≡ true = ap (λ (k : Shape). check (view k ts)) (sym is) ∙ z in
-            q ∙ ap (λ (k : Shape). writeList (listOf (view k ts) h) us xs) is ∙ ap (λ (vs : List ℕ). writeList (listOf (shown f ts) h) vs xs) clean
-            ∙ rw (table-test, space-test, holder-test, good)
+    -- the list at x, which the holder names
+    pub accepted : not b ≡ false → {x : ℕ} {r : Outcome} {zs : List ℕ} → x ≡ holder (view s ts) h → Writes r us zs (writeList (listAt (view s ts .cells) x) us xs)
+        → Writes r us zs (writingIn (s .form) ts ws h xs)
+    accepted e {x} {r} {zs} q k = subst (Writes r us zs) (sym (goes e)) (subst (λ (y : ℕ). Writes r us zs (writeList (listAt (view s ts .cells) y) us xs)) q k)
