@@ -4,6 +4,7 @@ use mathlib.Core.Bool.{Bool, true, false, not}
 use mathlib.Core.List.{List}
 use Prim.Native.Nat.{ℕ}
 use native.Mathlib.Omega.{arith}
+use lib.ListN.{length}
 use borrow.Author.Tests.{eqb-false, ne-eqb, not-false}
 use Rattle.answers.specs.Answers.{DONE}
 use Rattle.pool.specs.Pool.{Pool, Sound}
