@@ -2,24 +2,22 @@
 -- cells are shared, in the cells that document 01 names; reading and writing keep to the text form, and each undoes the other.
 use mathlib.Core.Path.{_≡_}
 use mathlib.Core.Logic.{_≢_}
-use mathlib.Core.Bool.{false}
 use mathlib.Core.List.{List, [], _++_}
-use Prim.Native.Nat.{ℕ, _+_, _*_, _%_, _≤_, _<_, _^_}
-use lib.ListN.{length, getD, take, drop, replicate}
+use Prim.Native.Nat.{ℕ, _+_, _*_, _≤_, _<_, _^_}
+use lib.ListN.{length, getD, take, drop}
 use Rattle.answers.specs.Answers.{DONE}
 use Rattle.lists.specs.Lst.{Lst, order, extent}
-use Rattle.pool.specs.Tally.{occ}
 use Rattle.pool.specs.Pool.{Pool, kindOf, elemOf, countOf, nextOf, holder, frees, Sound}
 use Rattle.pool.specs.Script.{Operation}
 use Rattle.table.specs.Limits.{cellsTold, holdersTold}
-use Rattle.text.specs.Limits.{levels, recordBytes}
-use Rattle.text.specs.ListText.{textOf, fill, bare}
+use Rattle.text.specs.Limits.{levels}
+use Rattle.text.specs.ListText.{textOf, fill}
 use Rattle.text.specs.Writing.{usable}
 use Rattle.calls.specs.Entry.{workWords, shown, over}
 use Rattle.calls.specs.Run.{operations}
 use Rattle.promises.specs.Engine.{Engine}
 use Rattle.promises.specs.Grounds.{BadTable, UsesB}
-use Rattle.promises.specs.TextGrounds.{Has, TakesRecords}
+use Rattle.promises.specs.TextGrounds.{Has, TakesRecords, plain, Records}
 use Rattle.promises.specs.Machine.{Lists, assign, turn, says, turnAll, Says}
 use Rattle.promises.specs.Demand1.{wordsOf}
 use Rattle.promises.specs.Cells.{OperationsUseTheirCells, ReadingUsesItsCells, BorrowShares, PrefixTakesHead, DecapFreesToHead, LiveCellsStay}
@@ -32,19 +30,6 @@ Holds form ts m = (i : ℕ) → Has form ts i (m i)
 -- the text of a list with its last record filled
 abbrev pub filled : List ℕ → List ℕ
 filled t = t ++ fill (length t)
-
--- a text with leading zeros dropped (and blanks, where it has any)
-abbrev pub plain : List ℕ → List ℕ
-plain t = bare false t
-
--- m bytes of a text, whole records: the characters t of a list, with no blank among them, and fewer than a record of blanks behind them
-pub record Records (xs : List ℕ) (m : ℕ) (t : List ℕ) : Type 0 where
-  pub blanks : ℕ
-  pub bytes : take m xs ≡ t ++ replicate blanks 32
-  pub few : blanks < recordBytes
-  pub whole : m % recordBytes ≡ 0
-  pub within : m ≤ length xs
-  pub solid : occ t 32 ≡ 0
 
 -- words of 32 bits
 abbrev pub Words : List ℕ → Type 0

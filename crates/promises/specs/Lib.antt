@@ -4,6 +4,7 @@ pub mod Grounds
 pub mod TextGrounds
 pub mod Machine
 pub mod Demand1
+pub mod Erasing
 pub mod Cells
 pub mod Demand2
 pub mod Demand3

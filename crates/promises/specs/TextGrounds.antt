@@ -2,16 +2,17 @@
 -- text check, of reading and of writing.
 use mathlib.Core.Path.{_≡_}
 use mathlib.Core.Logic.{_≢_, _⊎_}
-use mathlib.Core.Bool.{cond}
+use mathlib.Core.Bool.{false, cond}
 use mathlib.Core.List.{List, [], _∷_, _++_}
 use Prim.Native.Nat.{ℕ, _+_, _-_, _*_, _%_, _≤_, _<_}
-use lib.ListN.{length, take}
-use Rattle.answers.specs.Answers.{UNSOUND, HOLDER, OCCUPIED, NO-ROOM, TEXT-SIZE, END, NOT-A-LIST, ATOM, DEEP, OUTPUT}
+use lib.ListN.{length, take, replicate}
+use Rattle.answers.specs.Answers.{UNSOUND, HOLDER, OCCUPIED, NO-ROOM, TEXT-SIZE, END, NOT-A-LIST, ATOM, DEEP, OUTPUT, TABLE-SIZE, WORK-SPACE}
 use Rattle.lists.specs.Lst.{Lst, extent}
+use Rattle.pool.specs.Tally.{occ}
 use Rattle.pool.specs.Pool.{holder, ListAt, frees}
 use Rattle.text.specs.Limits.{levels, recordBytes, textMost, digitsMost, atomsEnd}
 use Rattle.text.specs.Marks.{listIn}
-use Rattle.text.specs.ListText.{textOf, isDigit}
+use Rattle.text.specs.ListText.{textOf, isDigit, bare}
 use Rattle.text.specs.Writing.{usable, depthAfter}
 use Rattle.calls.specs.Entry.{workWords, shown}
 use Rattle.promises.specs.Rows.{Row, row}
@@ -99,6 +100,23 @@ RunsOut xs = Fine xs × (Complete xs → ⊥)
 -- m bytes of a text, where none of them is a fault, the list has ended and its record is full, and no sooner
 abbrev pub TakesRecords : List ℕ → ℕ → Type 0
 TakesRecords xs m = (m ≤ length xs) × Fine (take m xs) × Complete (take m xs)
+
+-- a text with leading zeros dropped (and blanks, where it has any)
+abbrev pub plain : List ℕ → List ℕ
+plain t = bare false t
+
+-- m bytes of a text, whole records: the characters t of a list, with no blank among them, and fewer than a record of blanks behind them
+pub record Records (xs : List ℕ) (m : ℕ) (t : List ℕ) : Type 0 where
+  pub blanks : ℕ
+  pub bytes : take m xs ≡ t ++ replicate blanks 32
+  pub few : blanks < recordBytes
+  pub whole : m % recordBytes ≡ 0
+  pub within : m ≤ length xs
+  pub solid : occ t 32 ≡ 0
+
+-- the list l is that of the first m bytes of a text
+abbrev pub Spells : List ℕ → ℕ → Lst → Type 0
+Spells xs m l = TakesRecords xs m × ((t : List ℕ) × Records xs m t × (textOf l ≡ plain t))
 
 abbrev pub faultRows : List ℕ → List Row
 faultRows xs = row NOT-A-LIST (Faulted xs NOT-A-LIST ⊎ RunsOut xs) ∷ row ATOM (Faulted xs ATOM) ∷ row DEEP (Faulted xs DEEP) ∷ []

@@ -18,3 +18,4 @@ pub mod CopyStays
 pub mod FreeCells
 pub mod TextEnds
 pub mod Atoms
+pub mod ErasingLaws

@@ -29,10 +29,10 @@ use Rattle.calls.specs.Read.{Read as Reading, readingIn}
 use Rattle.calls.specs.Write.{Write, writeList, writingIn}
 use Rattle.promises.specs.Engine.{ours}
 use Rattle.table.specs.Limits.{cellsTold}
-use Rattle.promises.specs.TextGrounds.{Has, TakesRecords}
+use Rattle.promises.specs.TextGrounds.{Has, TakesRecords, plain, Records}
 use Rattle.promises.specs.Machine.{Lists, assign, turn, turnAll, Says}
 use Rattle.promises.specs.Demand1.{wordsOf}
-use Rattle.promises.specs.Demand2.{Holds, filled, plain, Records, Ready, Demand2, OperationsGive, OthersStay, ScriptsGive, ReadingGives, CheckingGives, RestGives, WritingGives, WrittenReadsBack, ReadWritesBack}
+use Rattle.promises.specs.Demand2.{Holds, filled, Ready, Demand2, OperationsGive, OthersStay, ScriptsGive, ReadingGives, CheckingGives, RestGives, WritingGives, WrittenReadsBack, ReadWritesBack}
 use Rattle.promises.specs.laws.TestsTell.{shown-holders, tells-table, tells-unsound, cells-told}
 use Rattle.promises.specs.laws.TextRows.{check-takes}
 use Rattle.promises.specs.laws.OperationLaws.{HoldsIn, operation-does, assigned}

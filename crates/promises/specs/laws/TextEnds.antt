@@ -17,7 +17,7 @@ use Rattle.text.specs.ListText.{headDigit, bare}
 use Rattle.text.specs.Text.{Phase, atStart, afterOpen, afterComma, inAtom, afterElement, afterAll, Scan, place, Step, mark, fault, State, at, taken, begin, stepOf, settle, run, isOver, done, verdict}
 use Rattle.text.specs.laws.TextLaws.{by-case, no-yes, never-taken, rests-taken}
 use Rattle.text.specs.laws.Accepted.{taken-run, taken-within}
-use Rattle.promises.specs.Demand2.{Records, plain}
+use Rattle.promises.specs.TextGrounds.{plain, Records}
 use Rattle.promises.specs.laws.TextForm.{marks}
 use Rattle.promises.specs.laws.TextRows.{both}
 

@@ -20,9 +20,9 @@ use Rattle.calls.specs.Entry.{badTable, shown}
 use Rattle.calls.specs.Read.{readingIn}
 use Rattle.calls.specs.Write.{writingIn}
 use Rattle.table.specs.Limits.{cellsTold}
-use Rattle.promises.specs.TextGrounds.{along}
+use Rattle.promises.specs.TextGrounds.{along, Records}
 use Rattle.promises.specs.laws.TestsTell.{tells-table, tells-sound}
-use Rattle.promises.specs.Demand2.{Records, Words, Ready, ReadingGives, ReadingTakes, CheckingGives, CheckingTakes, WritingGives, WrittenReadsBack, ReadWritesBack}
+use Rattle.promises.specs.Demand2.{Words, Ready, ReadingGives, ReadingTakes, CheckingGives, CheckingTakes, WritingGives, WrittenReadsBack, ReadWritesBack}
 use Rattle.promises.specs.laws.TextEnds.{plain-records}
 use Rattle.promises.specs.refuted.WrongTexts.{takesAll, countsNoDigits, runUncounted, readsReversed, leadsWithZero, zeroed, writesNullAsZero, nullAsZero}
 use Rattle.promises.specs.refuted.Computed.{computed}
