@@ -20,7 +20,7 @@ use Rattle.promises.specs.Grounds.{BadTable, UsesB}
 use Rattle.promises.specs.TextGrounds.{Has, TakesRecords, plain, Records}
 use Rattle.promises.specs.Machine.{Lists, assign, turn, says, turnAll, Says}
 use Rattle.promises.specs.Demand1.{wordsOf}
-use Rattle.promises.specs.Cells.{OperationsUseTheirCells, ReadingUsesItsCells, BorrowShares, PrefixTakesHead, DecapFreesToHead, LiveCellsStay}
+use Rattle.promises.specs.Cells.{SizesStay, HoldersStay, PrefixTakesHead, PrefixListTakesHead, DecapFreesToHead, AdvErases, BorrowShares, EraseErases, InvTurns, CinvCopies, ConcJoins, AskingLeaves, LiveCellsStay, ReadingUsesItsCells}
 use Rattle.table.specs.declared.Form.{Form}
 
 -- the holders of a table have these lists
@@ -129,10 +129,18 @@ ReadWritesBack E =
 pub record Demand2 (form : Form) (E : Engine) : Type 0 where
   pub set-up-gives : SetUpGives form E
   pub operations-give : OperationsGive form E
-  pub operations-use-their-cells : OperationsUseTheirCells form E
-  pub borrow-shares : BorrowShares form E
+  pub sizes-stay : SizesStay form E
+  pub holders-stay : HoldersStay form E
   pub prefix-takes-head : PrefixTakesHead form E
+  pub prefix-list-takes-head : PrefixListTakesHead form E
   pub decap-frees-to-head : DecapFreesToHead form E
+  pub adv-erases : AdvErases form E
+  pub borrow-shares : BorrowShares form E
+  pub erase-erases : EraseErases form E
+  pub inv-turns : InvTurns form E
+  pub cinv-copies : CinvCopies form E
+  pub conc-joins : ConcJoins form E
+  pub asking-leaves : AskingLeaves form E
   pub live-cells-stay : LiveCellsStay form E
   pub others-stay : OthersStay form E
   pub scripts-give : ScriptsGive form E

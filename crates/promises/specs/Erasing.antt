@@ -1,5 +1,5 @@
--- Erasing as a relation, in document 01's words: one constructor for each thing that a step can find. The waiting chain is a list of
--- cells, the last to come first.
+-- Erasing as a relation, in document 01's words: one constructor for each thing that a step can find. The waiting chain
+-- is a list of cells, the last to come first.
 use mathlib.Core.Path.{_≡_}
 use mathlib.Core.List.{List, [], _∷_}
 use Prim.Native.Nat.{ℕ, suc, _-_, _<_}
@@ -14,8 +14,8 @@ abbrev pub firstOf : List ℕ → ℕ
 firstOf [] = 0
 firstOf (w ∷ ws) = w
 
--- from the free chain at f, the cells cs, x at hand (0 for an end) and the cells ws waiting, erasing comes to the free chain at g and the
--- cells ds, and frees n cells
+-- from the free chain at f, the cells cs, x at hand (0 for an end) and the cells ws waiting, erasing comes to the free
+-- chain at g and the cells ds, and frees n cells
 pub data Erased (g : ℕ) (ds : List Cell) : ℕ → List Cell → ℕ → List ℕ → ℕ → Type 0 where
   -- one off the count of x, and it is still positive: stop that way
   shared : {f : ℕ} {cs : List Cell} {x : ℕ} {ws : List ℕ} {n : ℕ} → 1 < countOf cs x

@@ -17,5 +17,9 @@ pub mod LevelStays
 pub mod CopyStays
 pub mod FreeCells
 pub mod TextEnds
+pub mod TextOnce
 pub mod Atoms
 pub mod ErasingLaws
+pub mod Levels
+pub mod LoadCells
+pub mod CopyCells

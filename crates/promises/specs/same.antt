@@ -1,4 +1,5 @@
 pub mod SameParts
+pub mod OnePool
 pub mod SameRun
 pub mod SameRows
 pub mod SameSetUp

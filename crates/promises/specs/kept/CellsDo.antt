@@ -1,39 +1,57 @@
--- Our operations and our reading use the cells that document 01 names: the table afterwards is the effect on the pool, and each effect says which.
+-- Our operations and our reading use the cells that document 01 names: the table afterwards shows the effect on the pool, and each effect says
+-- which cells it uses.
 use mathlib.Core.Path.{_≡_, refl, sym, ap, _∙_, subst}
-use mathlib.Core.Logic.{inl, inr}
-use mathlib.Core.Bool.{_&&_}
-use mathlib.Core.List.{List}
-use Prim.Native.Nat.{ℕ, zero, suc, _<_}
-use native.Mathlib.Decide.{ℕ-discrete}
+use mathlib.Core.Logic.{_≢_, inl, inr}
+use mathlib.Core.Bool.{true, cond}
+use mathlib.Core.List.{List, [], _∷_, map}
+use Prim.Native.Nat.{ℕ, zero, suc, _+_, _≤_, _<_}
 use native.Mathlib.Omega.{arith}
 use lib.Dec.{eqb}
-use lib.ListN.{length, set}
-use lib.Seq.{getD-set-same, getD-set-other}
-use package.borrow.Author.Tests.{eqb-false}
+use lib.ListN.{length, getD, set, take}
+use lib.Seq.{getD-set-same, getD-set-other, getD-take, length-take-le}
+use package.borrow.Author.Tests.{not-false, eqb-true, eqb-false, ltb-false, leb-false}
 use Rattle.answers.specs.Answers.{DONE}
-use Rattle.pool.specs.Pool.{Cell, Pool, at, put, countOf, nextOf, counted, followed, setCount, holder, Live, NullOrLive, Sound}
-use Rattle.pool.specs.laws.Edit.{put-length, put-same, live-cell}
-use Rattle.pool.specs.Operations.{share, pfa, pfl, decap, borrow, read}
-use Rattle.pool.specs.laws.ShareLaws.{share-other}
-use Rattle.pool.specs.laws.Advance.{holder-live}
-use Rattle.pool.specs.Script.{DECAP, BORROW, Operation, among, usesB, effect}
-use Rattle.pool.specs.laws.ScriptLaws.{Allowed, allowed, a-holder, b-holder}
+use Rattle.lists.specs.Lst.{Lst, extent}
+use Rattle.pool.specs.Tally.{same, tally, occ}
+use Rattle.pool.specs.Pool.{Cell, Pool, at, put, kindOf, elemOf, countOf, nextOf, counted, followed, setNext, holder, Live, NullOrLive, InPool, Chain, frees, Sound}
+use Rattle.pool.specs.laws.Edit.{put-same, put-other, live-cell}
+use Rattle.pool.specs.Erase.{dropped}
+use Rattle.pool.specs.Operations.{share, itemOf, item, pfa, pfl, decap, adv, borrow, erase, inv, cinv, concAt, conc, lastOf, lengthOf, read}
+use Rattle.pool.specs.laws.Held.{reroot}
+use Rattle.pool.specs.laws.Holders.{occ-take, both, both-a, both-b}
+use Rattle.pool.specs.laws.ShareLaws.{share-length, share-live}
+use Rattle.pool.specs.laws.SoundLaws.{none-aside, sound-held, denoted}
+use Rattle.pool.specs.laws.Advance.{holder-live, null-or-item, lends}
+use Rattle.pool.specs.laws.Level.{length-is}
+use Rattle.pool.specs.laws.Reach.{len-le}
+use Rattle.pool.specs.laws.Chains.{Chain-once}
+use Rattle.pool.specs.laws.Lengths.{effect-alike}
+use Rattle.pool.specs.laws.ByCode.{by-code}
+use Rattle.pool.specs.Script.{PFA, PFL, DECAP, ADV, BORROW, ERASE, INV, CINV, CONC, FIRST, LENGTH, Operation, Effect, among, effect}
+use Rattle.pool.specs.laws.ScriptLaws.{Allowed, allowed, a-holder, b-holder, some-free}
+use Rattle.pool.specs.laws.TallyLaws.{Same, eq, ne, same?}
 use Rattle.text.specs.Marks.{listIn}
-use Rattle.calls.specs.Entry.{shown, stored}
+use Rattle.table.specs.Limits.{holdersTold}
+use Rattle.calls.specs.Entry.{shown, stored, over}
 use Rattle.calls.specs.Read.{Read as Reading}
 use Rattle.promises.specs.Engine.{ours}
 use Rattle.promises.specs.Rows.{OneOf}
-use Rattle.promises.specs.Grounds.{takingFirst, takingOne}
-use Rattle.promises.specs.Cells.{OperationsUseTheirCells, ReadingUsesItsCells, Makes, Stays, BorrowShares, PrefixTakesHead, DecapFreesToHead}
+use Rattle.promises.specs.Grounds.{withB, UsesB}
+use Rattle.promises.specs.TextGrounds.{Spells}
+use Rattle.promises.specs.Erasing.{Erased}
+use Rattle.promises.specs.Cells.{Makes, Sized, SizesStay, HoldersStay, Only, nth, endOf, sublist, Lent, Prefixed, PrefixTakesHead, PrefixListTakesHead, Beheaded, DecapFreesToHead, Advanced, AdvErases, Borrowed, BorrowShares, EraseErases, Turned, InvTurns, Copied, CinvCopies, Joined, ConcJoins, AskingLeaves, asking, ReadIn, ReadingUsesItsCells}
+use Rattle.promises.specs.laws.Tells.{tells-among}
 use Rattle.promises.specs.laws.OneOperation.{one-accepted, effect-stored}
-use Rattle.promises.specs.laws.ReadLaws.{read-ways}
+use Rattle.promises.specs.laws.Tables.{stored-same}
+use Rattle.promises.specs.laws.FreeCells.{free-zero}
+use Rattle.promises.specs.laws.ErasingLaws.{two-stores, dropped-erased}
+use Rattle.promises.specs.laws.Levels.{nth-occ, nth-other, nth-apart, chain-has, chain-first, chain-next, AllLive, live-first, live-later, level-of, all-free, free-length, flip-cells, last-cell, last-live}
+use Rattle.promises.specs.laws.CopyCells.{share-counts, map-same, LiveItems, copy-cells}
+use Rattle.promises.specs.laws.LoadCells.{load-cells}
+use Rattle.promises.specs.laws.TextOnce.{spells-once, spells-ours}
+use Rattle.promises.specs.laws.ReadLaws.{entered-good, read-ways}
+use Rattle.promises.specs.laws.Invariant.{read-alike, read-stored}
 use Rattle.table.specs.declared.Form.{Form}
-
-pub operations-use : (form : Form) → OperationsUseTheirCells form (ours form)
-operations-use form ts ws rs o e = one-accepted form ts ws rs o e .table
-
-pub reading-uses : (form : Form) → ReadingUsesItsCells form (ours form)
-reading-uses form ts ws h xs = read-ways form ts ws h xs (λ (r : Reading). r .answer ≡ DONE → r .table ≡ stored form ts (read (shown form ts) h (listIn xs))) (λ n us d e. absurd (d e)) (λ t e. refl)
 
 -- what holds of the effect of an operation that is allowed holds of the tables
 pub makes : (form : Form) → (R : Operation → Pool → Pool → Type 0) → ((p : Pool) (o : Operation) → Sound p → Allowed p o → R o p (effect p o .pool)) → Makes form (ours form) R
@@ -41,64 +59,313 @@ makes form R f ts ws rs o e =
     let w = one-accepted form ts ws rs o e in
     subst (λ (q : Pool). R o (shown form ts) q) (sym (ap (shown form) (w .table) ∙ effect-stored form ts o (w .good) (w .allows) .shows)) (f (shown form ts) o (w .good .sound) (allowed (shown form ts) o (w .allows)))
 
--- one more arrow to a cell changes no more than its count
-pub share-stays : (cs : List Cell) (x c : ℕ) → NullOrLive cs x → counted (at (share cs x) c) 0 ≡ counted (at cs c) 0
-unfolding share
-share-stays cs zero c o = refl
-share-stays cs (suc i) c (inl e) = absurd (omega arith)
-share-stays cs (suc i) c (inr l) = go (ℕ-discrete c (suc i))
-  where
-    y : Cell
-    y = counted (at cs (suc i)) (suc (countOf cs (suc i)))
+-- the same of one operation
+abbrev op : ℕ → Operation → Operation
+op c o = record { code = c; a = o .a; b = o .b; v = o .v }
 
-    go : Dec (c ≡ suc i) → counted (at (put cs (suc i) y) c) 0 ≡ counted (at cs c) 0
-    go (yes e) = let k = live-cell cs (suc i) l in rw e (ap (λ (z : Cell). counted z 0) (put-same cs (suc i) y (k .0) (k .1)))
-    go (no n) = ap (λ (z : Cell). counted z 0) (share-other cs (suc i) c n)
+by-op : (form : Form) → (c : ℕ) (R : Operation → Pool → Pool → Type 0) → ((p : Pool) (o : Operation) → Sound p → Allowed p (op c o) → R (op c o) p (effect p (op c o) .pool))
+    → Makes form (ours form) (λ o p q. o .code ≡ c → R o p q)
+by-op form c R f = makes form (λ o p q. o .code ≡ c → R o p q) (λ p o s h e. subst (λ (k : ℕ). R (op k o) p (effect p (op k o) .pool)) (sym e) (f p o s (subst (λ (k : ℕ). Allowed p (op k o)) e h)))
 
-effect-borrow : (p : Pool) (o : Operation) → o .code ≡ BORROW → effect p o .pool ≡ borrow p (o .a) (o .b)
-unfolding effect
-effect-borrow p o e = rw e
+-- whatever the operation
 
-borrowed : (p : Pool) (a b : ℕ) → Sound p → b < length (p .holders) → let q = borrow p a b in (holder q b ≡ holder p a) × (q .free ≡ p .free) × ((c : ℕ) → Stays p q c)
-unfolding borrow
-borrowed p a b s lb = (
-  getD-set-same (p .holders) b (holder p a) 0 lb,
-  refl,
-  λ c.
-      let k = share-stays (p .cells) (holder p a) c (s .holds a) in
-      (ap (λ (z : Cell). z .kind) k, ap (λ (z : Cell). z .elem) k, ap (λ (z : Cell). z .next) k),
-)
+pub sizes-stay : (form : Form) → SizesStay form (ours form)
+sizes-stay form = makes form (λ o p q. Sized p q) (λ p o s h. let a = effect-alike p o in record { cells = a .cells; holders = a .holders })
 
-pub borrow-shares : (form : Form) → BorrowShares form (ours form)
-borrow-shares form = makes form (λ o p q. o .code ≡ BORROW → (holder q (o .b) ≡ holder p (o .a)) × (q .free ≡ p .free) × ((c : ℕ) → Stays p q c)) (λ p o s h e.
-    let (lb, _) = b-holder p o (h .opened) (ap usesB e) in
-    subst (λ (q : Pool). (holder q (o .b) ≡ holder p (o .a)) × (q .free ≡ p .free) × ((c : ℕ) → Stays p q c)) (sym (effect-borrow p o e)) (borrowed p (o .a) (o .b) s lb))
+module _ (p : Pool) (o : Operation) (i : ℕ) (na : i ≢ o .a) (nb : UsesB (o .code) → i ≢ o .b) where
+  abbrev Stays : Pool → Type 0
+  Stays q = holder q i ≡ holder p i
 
-prefixed : (p : Pool) (o : Operation) → Allowed p o → OneOf (o .code) takingOne → holder (effect p o .pool) (o .a) ≡ p .free
-unfolding effect pfa pfl
-prefixed p o h (inl e) = rw e (getD-set-same (p .holders) (o .a) (p .free) 0 (a-holder p o (h .opened)))
-prefixed p o h (inr (inl e)) =
-    let (lb, ab) = b-holder p o (h .opened) (ap usesB e) in
-    rw e (getD-set-other (set (p .holders) (o .a) (p .free)) (o .b) (o .a) 0 0 ab ∙ getD-set-same (p .holders) (o .a) (p .free) 0 (a-holder p o (h .opened)))
-prefixed p o h (inr (inr e)) = absurd e
+  b-apart : (k : ℕ) → among k withB ≡ true → o .code ≡ k → i ≢ o .b
+  b-apart k u e = nb (subst UsesB (sym e) (tells-among k withB .0 u))
+
+  at-a : (x : ℕ) → getD (set (p .holders) (o .a) x) i 0 ≡ holder p i
+  at-a x = getD-set-other (p .holders) (o .a) i x 0 na
+
+  at-b : (y : ℕ) → i ≢ o .b → getD (set (p .holders) (o .b) y) i 0 ≡ holder p i
+  at-b y n = getD-set-other (p .holders) (o .b) i y 0 n
+
+  at-both : (x y : ℕ) → i ≢ o .b → getD (set (set (p .holders) (o .a) x) (o .b) y) i 0 ≡ holder p i
+  at-both x y n = getD-set-other (set (p .holders) (o .a) x) (o .b) i y 0 n ∙ at-a x
+
+  in-conc : (x y : ℕ) → i ≢ o .b → Stays (concAt p (o .a) (o .b) x y)
+  unfolding concAt
+  in-conc x zero n = refl
+  in-conc zero (suc j) n = at-both _ _ n
+  in-conc (suc k) (suc j) n = at-both _ _ n
+
+  holder-same : Stays (effect p o .pool)
+  unfolding pfa pfl decap adv borrow erase inv cinv conc
+  holder-same = by-code Stays p o (λ e. at-a _) (λ e. at-both _ _ (b-apart PFL refl e)) (λ e. at-both _ _ (b-apart DECAP refl e)) (λ e. at-both _ _ (b-apart ADV refl e)) (λ e. at-b _ (b-apart BORROW refl e))
+      (λ e. at-a _) (λ e. at-a _) (λ e. at-b _ (b-apart CINV refl e)) (λ e. in-conc _ _ (b-apart CONC refl e)) refl
+
+pub holders-stay : (form : Form) → HoldersStay form (ours form)
+holders-stay form = makes form (λ o p q. (i : ℕ) → i ≢ o .a → (UsesB (o .code) → i ≢ o .b) → holder q i ≡ holder p i) (λ p o s h i na nb. holder-same p o i na nb)
+
+-- PFA and PFL
+
+-- one cell replaced
+only : (p q : Pool) (x : ℕ) (y : Cell) → InPool (p .cells) x → q .cells ≡ put (p .cells) x y → Only x y p q
+only p q x y k e = record { here = ap (λ (cs : List Cell). at cs x) e ∙ put-same (p .cells) x y (k .0) (k .1); rest = λ c n. ap (λ (cs : List Cell). at cs c) e ∙ put-other (p .cells) x c y n }
+
+head-inside : (p : Pool) → Sound p → p .free ≢ 0 → InPool (p .cells) (p .free)
+head-inside p s n = free-zero p s (p .free) (s .chain .0, s .chain .1, chain-has (p .cells) (p .free) (s .chain .0) n (s .chain .1)) .0
+
+pfa-prefixes : (p : Pool) (o : Operation) → Sound p → Allowed p (op PFA o) → Prefixed 0 (o .v) (o .a) p (effect p (op PFA o) .pool)
+unfolding effect pfa
+pfa-prefixes p o s h =
+    let k = head-inside p s (some-free p s (ltb-false (frees (p .cells)) 1 (h .room))) in
+    record { head = getD-set-same (p .holders) (o .a) (p .free) 0 (a-holder p (op PFA o) (h .opened)); free = refl; cells = only p (pfa p (o .a) (o .v)) (p .free) _ k refl }
 
 pub prefix-takes : (form : Form) → PrefixTakesHead form (ours form)
-prefix-takes form = makes form (λ o p q. OneOf (o .code) takingOne → holder q (o .a) ≡ p .free) (λ p o s h. prefixed p o h)
+prefix-takes form = by-op form PFA (λ o p q. Prefixed 0 (o .v) (o .a) p q) pfa-prefixes
 
-effect-decap : (p : Pool) (o : Operation) → o .code ≡ DECAP → effect p o .pool ≡ decap p (o .a) (o .b)
-unfolding effect
-effect-decap p o e = rw e
+pfl-prefixes : (p : Pool) (o : Operation) → Sound p → Allowed p (op PFL o) → let q = effect p (op PFL o) .pool in Prefixed 1 (holder p (o .b)) (o .a) p q × (holder q (o .b) ≡ 0)
+unfolding effect pfl
+pfl-prefixes p o s h =
+    let k = head-inside p s (some-free p s (ltb-false (frees (p .cells)) 1 (h .room))) in
+    let la = a-holder p (op PFL o) (h .opened) in
+    let (lb, ab) = b-holder p (op PFL o) (h .opened) refl in
+    (record { head = both-a (p .holders) (o .a) (o .b) (p .free) 0 la lb ab; free = refl; cells = only p (pfl p (o .a) (o .b)) (p .free) _ k refl }, both-b (p .holders) (o .a) (o .b) (p .free) 0 la lb ab)
 
-beheaded : (p : Pool) (a b : ℕ) → Live (p .cells) (holder p a) → let q = decap p a b in (q .free ≡ holder p a) × (nextOf (q .cells) (q .free) ≡ p .free)
-unfolding decap
-beheaded p a b l =
-    let x = holder p a in
+pub prefix-list-takes : (form : Form) → PrefixListTakesHead form (ours form)
+prefix-list-takes form = by-op form PFL (λ o p q. Prefixed 1 (holder p (o .b)) (o .a) p q × (holder q (o .b) ≡ 0)) pfl-prefixes
+
+-- DECAP and ADV
+
+item-is : (t e : ℕ) → t ≤ 1 → itemOf t e ≡ cond (eqb t 1) e 0
+unfolding itemOf
+item-is zero e l = refl
+item-is (suc zero) e l = refl
+item-is (suc (suc t)) e l = absurd (omega arith)
+
+element-is : (p : Pool) (x : ℕ) → Sound p → Live (p .cells) x → item (p .cells) x ≡ sublist (p .cells) x
+element-is p x s l = item-is (kindOf (p .cells) x) (elemOf (p .cells) x) (sound-held p s .kinds x l)
+
+decap-beheads : (p : Pool) (o : Operation) → Sound p → Allowed p (op DECAP o) → Beheaded (o .a) (o .b) p (effect p (op DECAP o) .pool)
+unfolding effect decap
+decap-beheads p o s h =
+    let x = holder p (o .a) in
+    let l = holder-live p (o .a) s (eqb-false x 0 (h .filled)) in
+    let la = a-holder p (op DECAP o) (h .opened) in
+    let (lb, ab) = b-holder p (op DECAP o) (h .opened) refl in
     let k = live-cell (p .cells) x l in
-    let cs = setCount (p .cells) x 0 in
-    (refl, ap (λ (z : Cell). z .next) (put-same cs x (followed (at cs x) (p .free)) (k .0) (omega (arith, k .1, put-length (p .cells) x (counted (at (p .cells) x) 0)))))
+    record {
+      tail = both-a (p .holders) (o .a) (o .b) (nextOf (p .cells) x) (item (p .cells) x) la lb ab;
+      element = both-b (p .holders) (o .a) (o .b) (nextOf (p .cells) x) (item (p .cells) x) la lb ab ∙ element-is p x s l;
+      free = refl;
+      cells = only p (decap p (o .a) (o .b)) x _ k (two-stores (p .cells) x (p .free) k);
+    }
 
 pub decap-frees : (form : Form) → DecapFreesToHead form (ours form)
-decap-frees form = makes form (λ o p q. o .code ≡ DECAP → (q .free ≡ holder p (o .a)) × (nextOf (q .cells) (q .free) ≡ p .free)) (λ p o s h e.
+decap-frees form = by-op form DECAP (λ o p q. Beheaded (o .a) (o .b) p q) decap-beheads
+
+-- two lists borrowed one after the other
+lent-both : (cs : List Cell) (x y z : ℕ) → NullOrLive cs x → NullOrLive cs y → x ≡ z → Lent (z ∷ y ∷ []) cs (share (share cs x) y)
+unfolding tally
+lent-both cs x y z ox oy e = record {
+  size = share-length (share cs x) y ∙ share-length cs x;
+  counts = λ c n.
+      let sum : countOf cs c + same x c + same y c ≡ countOf cs c + occ (z ∷ y ∷ []) c = omega (arith, ap (λ (d : ℕ). same d c) e) in
+      share-counts (share cs x) y c (share-live cs x y ox oy) n ∙ ap (λ (w : Cell). counted w (w .count + same y c)) (share-counts cs x c ox n) ∙ ap (counted (at cs c)) sum;
+}
+
+adv-advances : (p : Pool) (o : Operation) → Sound p → Allowed p (op ADV o) → Advanced (o .a) (o .b) p (effect p (op ADV o) .pool)
+unfolding effect adv
+adv-advances p o s h =
+    let cs = p .cells in
     let x = holder p (o .a) in
-    let n = eqb-false x 0 (sym (ap (λ (c : ℕ). among c takingFirst && eqb x 0) e) ∙ h .filled) in
-    subst (λ (q : Pool). (q .free ≡ holder p (o .a)) × (nextOf (q .cells) (q .free) ≡ p .free)) (sym (effect-decap p o e)) (beheaded p (o .a) (o .b) (holder-live p (o .a) s n)))
+    let l = holder-live p (o .a) s (eqb-false x 0 (h .filled)) in
+    let la = a-holder p (op ADV o) (h .opened) in
+    let (lb, ab) = b-holder p (op ADV o) (h .opened) refl in
+    let e = item cs x in
+    let nx = nextOf cs x in
+    let (w, u) = lends p (o .a) (o .b) s la lb ab (eqb-true (holder p (o .b)) 0 (not-false _ (h .vacant))) l in
+    let ds = share (share cs e) nx in
+    record {
+      tail = both-a (p .holders) (o .a) (o .b) nx e la lb ab;
+      element = both-b (p .holders) (o .a) (o .b) nx e la lb ab ∙ element-is p x s l;
+      borrowed = ds;
+      lent = lent-both cs e nx (sublist cs x) (null-or-item cs x (sound-held p s .kinds x l) (λ k. s .elems x l k)) (s .nexts x l) (element-is p x s l);
+      freed = dropped (p .free) ds x .freed;
+      erased = dropped-erased (occ (both (p .holders) (o .a) (o .b) nx e la lb ab)) (p .free) ds x (u .held);
+    }
+
+pub adv-erases : (form : Form) → AdvErases form (ours form)
+adv-erases form = by-op form ADV (λ o p q. Advanced (o .a) (o .b) p q) adv-advances
+
+-- BORROW and ERASE
+
+borrow-lends : (p : Pool) (o : Operation) → Sound p → Allowed p (op BORROW o) → Borrowed (o .a) (o .b) p (effect p (op BORROW o) .pool)
+unfolding effect borrow tally
+borrow-lends p o s h =
+    let x = holder p (o .a) in
+    let (lb, ab) = b-holder p (op BORROW o) (h .opened) refl in
+    record {
+      kept = getD-set-other (p .holders) (o .b) (o .a) x 0 ab;
+      shared = getD-set-same (p .holders) (o .b) x 0 lb;
+      free = refl;
+      cells = record { size = share-length (p .cells) x; counts = λ c n. let sum : countOf (p .cells) c + same x c ≡ countOf (p .cells) c + occ (x ∷ []) c = omega arith in share-counts (p .cells) x c (s .holds (o .a)) n ∙ ap (counted (at (p .cells) c)) sum };
+    }
+
+pub borrow-shares : (form : Form) → BorrowShares form (ours form)
+borrow-shares form = by-op form BORROW (λ o p q. Borrowed (o .a) (o .b) p q) borrow-lends
+
+erase-frees : (p : Pool) (a : ℕ) → Sound p → a < length (p .holders) → let (q, n) = erase p a in (holder q a ≡ 0) × Erased (q .free) (q .cells) (p .free) (p .cells) (holder p a) [] n
+unfolding erase
+erase-frees p a s la =
+    let x = holder p a in
+    let r : ℕ → ℕ = occ (set (p .holders) a 0) in
+    (getD-set-same (p .holders) a 0 0 la, dropped-erased r (p .free) (p .cells) x (reroot (p .free) (p .cells) (occ (p .holders)) none-aside (λ d. same x d + r d) none-aside (sound-held p s) (λ d n. omega (arith, occ-take (p .holders) a d la n)) (λ d. refl)))
+
+effect-erase : (p : Pool) (o : Operation) → o .code ≡ ERASE → effect p o ≡ record { pool = erase p (o .a) .0; kind = 2; value = erase p (o .a) .1 }
+unfolding effect
+effect-erase p o e = rw e
+
+pub erase-erases : (form : Form) → EraseErases form (ours form)
+erase-erases form ts ws rs o e c =
+    let w = one-accepted form ts ws rs o e in
+    let p = shown form ts in
+    let d = effect-erase p o c in
+    let q = ap (shown form) (w .table) ∙ effect-stored form ts o (w .good) (w .allows) .shows ∙ ap (λ (z : Effect). z .pool) d in
+    let (null, gone) = erase-frees p (o .a) (w .good .sound) (a-holder p o (allowed p o (w .allows) .opened)) in (
+      ap (λ (z : Pool). holder z (o .a)) q ∙ null,
+      (erase p (o .a) .1, subst (λ (z : Pool). Erased (z .free) (z .cells) (p .free) (p .cells) (holder p (o .a)) [] (erase p (o .a) .1)) (sym q) gone, w .results ∙ ap (λ (z : Effect). over (z .kind ∷ z .value ∷ []) rs) d),
+    )
+
+-- INV
+
+level-live : (p : Pool) (a : ℕ) (s : Sound p) (xs : List ℕ) → Chain (p .cells) (holder p a) xs → AllLive (p .cells) xs × (length xs ≤ length (p .cells)) × (length xs ≡ lengthOf p a)
+level-live p a s xs h =
+    let (l, w) = denoted p s a in
+    let (e, v) = level-of (p .cells) l (holder p a) xs w h in
+    (v, omega (arith, len-le (p .free) (p .cells) (occ (p .holders)) none-aside (sound-held p s) l (holder p a) w), e ∙ sym (length-is p a l s w))
+
+inv-turns : (p : Pool) (o : Operation) → Sound p → Allowed p (op INV o) → (xs : List ℕ) → Chain (p .cells) (holder p (o .a)) xs → Turned xs (o .a) p (effect p (op INV o) .pool)
+unfolding effect inv
+inv-turns p o s h xs c =
+    let (v, l, _) = level-live p (o .a) s xs c in
+    let r = flip-cells xs (length (p .cells)) (p .cells) (holder p (o .a)) 0 c v l in
+    record { head = getD-set-same (p .holders) (o .a) _ 0 (a-holder p (op INV o) (h .opened)) ∙ r .head; free = refl; turned = r .turned; rest = r .rest }
+
+pub inv-turns-cells : (form : Form) → InvTurns form (ours form)
+inv-turns-cells form = by-op form INV (λ o p q. (xs : List ℕ) → Chain (p .cells) (holder p (o .a)) xs → Turned xs (o .a) p q) inv-turns
+
+-- CINV
+
+live-items : (p : Pool) → Sound p → (xs : List ℕ) → AllLive (p .cells) xs → LiveItems (p .cells) xs
+unfolding tally
+live-items p s [] v c n o = absurd (omega arith)
+live-items p s (x ∷ xs) v c n o = go (same? (item (p .cells) x) c) (live-items p s xs (live-later (p .cells) x xs v) c n)
+  where
+    item-live : (d : ℕ) → d ≢ 0 → NullOrLive (p .cells) d → Live (p .cells) d
+    item-live d m (inl e) = absurd (m e)
+    item-live d m (inr l) = l
+
+    go : Same (item (p .cells) x) c → (0 < occ (map (item (p .cells)) xs) c → Live (p .cells) c) → Live (p .cells) c
+    go (eq e z) r = let l = live-first (p .cells) x xs v in item-live c n (subst (NullOrLive (p .cells)) e (null-or-item (p .cells) x (sound-held p s .kinds x l) (λ k. s .elems x l k)))
+    go (ne m z) r = r (omega arith)
+
+cinv-copies : (p : Pool) (o : Operation) → Sound p → Allowed p (op CINV o) → (xs fs : List ℕ) → Chain (p .cells) (holder p (o .a)) xs → Chain (p .cells) (p .free) fs → Copied xs fs (o .a) (o .b) p (effect p (op CINV o) .pool)
+unfolding effect cinv
+cinv-copies p o s h xs fs cx cf =
+    let (v, l, m) = level-live p (o .a) s xs cx in
+    let (lb, ab) = b-holder p (op CINV o) (h .opened) refl in
+    let room : length xs ≤ length fs = omega (arith, m, free-length p s fs cf, ltb-false (frees (p .cells)) (lengthOf p (o .a)) (h .room)) in
+    let r = copy-cells xs fs (length (p .cells)) (p .free) (p .cells) (holder p (o .a)) 0 cx cf v (live-items p s xs v) (all-free p s fs cf) room l in
+    let lists : map (item (p .cells)) xs ≡ map (sublist (p .cells)) xs = map-same (item (p .cells)) (sublist (p .cells)) xs (λ c k. element-is p c s (v c k)) in
+    record {
+      kept = getD-set-other (p .holders) (o .b) (o .a) _ 0 ab;
+      head = getD-set-same (p .holders) (o .b) _ 0 lb ∙ r .head;
+      free = r .free;
+      copied = r .copied;
+      rest = λ c n k. r .rest c n k ∙ ap (λ (es : List ℕ). counted (at (p .cells) c) (countOf (p .cells) c + occ es c)) lists;
+    }
+
+pub cinv-copies-cells : (form : Form) → CinvCopies form (ours form)
+cinv-copies-cells form = by-op form CINV (λ o p q. (xs fs : List ℕ) → Chain (p .cells) (holder p (o .a)) xs → Chain (p .cells) (p .free) fs → Copied xs fs (o .a) (o .b) p q) cinv-copies
+
+-- CONC
+
+module _ (p : Pool) (a b : ℕ) (la : a < length (p .holders)) (lb : b < length (p .holders)) (ab : a ≢ b) (xs : List ℕ) (v : AllLive (p .cells) xs) where
+  joins : (x y : ℕ) → holder p a ≡ x → holder p b ≡ y → (x ≢ 0 → (lastOf (length (p .cells)) (p .cells) x ≡ endOf xs) × (0 < length xs)) → Joined xs a b p (concAt p a b x y)
+  unfolding concAt
+  joins x zero e f r = record { free = refl; null = f; nothing = λ z. (refl, λ c. refl); given = λ n. absurd (n f); joined = λ n. absurd (n f) }
+  joins zero (suc j) e f r = record {
+    free = refl;
+    null = both-b (p .holders) a b (suc j) 0 la lb ab;
+    nothing = λ z. absurd (omega arith);
+    given = λ n z. (both-a (p .holders) a b (suc j) 0 la lb ab ∙ sym f, λ c. refl);
+    joined = λ n m. absurd (m e);
+  }
+  joins (suc i) (suc j) e f r =
+      let (at-end, some) = r (λ z. omega arith) in
+      let q = concAt p a b (suc i) (suc j) in
+      let k = live-cell (p .cells) (endOf xs) (last-live (p .cells) xs v some) in
+      let cells : q .cells ≡ put (p .cells) (endOf xs) (followed (at (p .cells) (endOf xs)) (holder p b))
+      = ap (λ (d : ℕ). setNext (p .cells) d (suc j)) at-end ∙ ap (setNext (p .cells) (endOf xs)) (sym f) in
+      record {
+        free = refl;
+        null = both-b (p .holders) a b (suc i) 0 la lb ab;
+        nothing = λ z. absurd (omega arith);
+        given = λ n z. absurd (omega arith);
+        joined = λ n m. (both-a (p .holders) a b (suc i) 0 la lb ab ∙ sym e, only p q (endOf xs) _ k cells);
+      }
+
+conc-joins : (p : Pool) (o : Operation) → Sound p → Allowed p (op CONC o) → (xs : List ℕ) → Chain (p .cells) (holder p (o .a)) xs → Joined xs (o .a) (o .b) p (effect p (op CONC o) .pool)
+unfolding effect conc tally
+conc-joins p o s h xs c =
+    let (v, l, _) = level-live p (o .a) s xs c in
+    let (lb, ab) = b-holder p (op CONC o) (h .opened) refl in
+    joins p (o .a) (o .b) (a-holder p (op CONC o) (h .opened)) lb ab xs v (holder p (o .a)) (holder p (o .b)) refl refl
+    (λ n. (last-cell xs (length (p .cells)) (p .cells) (holder p (o .a)) c n (omega arith), some xs c n))
+  where
+    some : (us : List ℕ) → Chain (p .cells) (holder p (o .a)) us → holder p (o .a) ≢ 0 → 0 < length us
+    some [] k n = absurd (omega (arith, chain-has (p .cells) (holder p (o .a)) [] n k))
+    some (u ∷ us) k n = omega arith
+
+pub conc-joins-cells : (form : Form) → ConcJoins form (ours form)
+conc-joins-cells form = by-op form CONC (λ o p q. (xs : List ℕ) → Chain (p .cells) (holder p (o .a)) xs → Joined xs (o .a) (o .b) p q) conc-joins
+
+-- FIRST and LENGTH
+
+asked : (p : Pool) (o : Operation) → OneOf (o .code) asking → effect p o .pool ≡ p
+unfolding effect
+asked p o (inl e) = rw e refl
+asked p o (inr (inl e)) = rw e refl
+asked p o (inr (inr e)) = absurd e
+
+pub asking-leaves : (form : Form) → AskingLeaves form (ours form)
+asking-leaves form ts ws rs o e c =
+    let w = one-accepted form ts ws rs o e in
+    w .table ∙ ap (stored form ts) (asked (shown form ts) o c) ∙ stored-same form ts (w .good .table)
+
+-- reading
+
+read-in : (p : Pool) (h : ℕ) (l : Lst) → Sound p → h < length (p .holders) → extent l ≤ frees (p .cells) → (fs : List ℕ) → Chain (p .cells) (p .free) fs → ReadIn l fs h p (read p h l)
+unfolding read
+read-in p h l s lh room fs c =
+    let free = all-free p s fs c in
+    let long : extent l ≤ length fs = omega (arith, free-length p s fs c) in
+    let r = load-cells (nth fs) (length fs) (length (p .cells)) (λ i j m n e. nth-apart fs i j (Chain-once (p .cells) (p .free) fs c) m n e) (λ j m. free (nth fs j) (nth-occ fs j m) .0)
+    l 0 (p .free) (p .cells) (chain-first (p .cells) (p .free) fs c) (λ j _ m. chain-next (p .cells) (p .free) fs c j (omega arith)) (omega arith) refl in
+    let zero-add : 0 + extent l ≡ extent l = omega arith in
+    record {
+      sized = let a = read-alike p h l in record { cells = a .cells; holders = a .holders };
+      head = getD-set-same (p .holders) h _ 0 lh ∙ r .head;
+      others = λ i n. getD-set-other (p .holders) h i _ 0 n;
+      free = r .free ∙ ap (nth fs) zero-add;
+      laid = r .laid;
+      rest = λ d o. r .rest d (λ j _ m e. nth-other (take (extent l) fs) j d (omega (arith, length-take-le (extent l) fs long)) o (getD-take (extent l) fs j 0 (omega arith) ∙ sym e));
+    }
+
+pub reading-uses : (form : Form) → ReadingUsesItsCells form (ours form)
+reading-uses form ts ws h xs =
+    read-ways form ts ws h xs (λ (r : Reading). r .answer ≡ DONE → (l : Lst) (fs : List ℕ) → Spells xs (r .count) l → Chain (shown form ts .cells) (shown form ts .free) fs → ReadIn l fs h (shown form ts) (shown form (r .table)))
+    (λ n us d e. absurd (d e))
+    (λ t _ l fs w c.
+    let g = entered-good form ts ws h xs (t .entered) in
+    let below = leb-false (holdersTold form ts) h (t .entered .held) in
+    let same-list : listIn xs ≡ l = spells-once xs _ _ (listIn xs) l (spells-ours xs (t .right)) w .1 in
+    subst (λ (q : Pool). ReadIn l fs h (shown form ts) q) (sym (read-stored form t .shows))
+    (subst (λ (k : Lst). ReadIn k fs h (shown form ts) (read (shown form ts) h (listIn xs))) same-list (read-in (shown form ts) h (listIn xs) (g .sound) (omega (arith, g .table .held)) (t .room) fs c)))

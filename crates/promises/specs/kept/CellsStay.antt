@@ -27,7 +27,8 @@ use Rattle.promises.specs.Rows.{OneOf}
 use Rattle.promises.specs.Grounds.{MainLevel}
 use Rattle.promises.specs.Cells.{turning, StaysBut, LiveCellsStay}
 use Rattle.promises.specs.laws.FreeCells.{live-not-free}
-use Rattle.promises.specs.kept.CellsDo.{makes, share-stays}
+use Rattle.promises.specs.kept.CellsDo.{makes}
+use Rattle.promises.specs.laws.CopyCells.{share-stays}
 use Rattle.promises.specs.laws.CopyStays.{copy-grows}
 use Rattle.promises.specs.laws.LevelStays.{next-set, Met, met-first, Turned, flip-turned, last-met}
 use Rattle.table.specs.declared.Form.{Form}

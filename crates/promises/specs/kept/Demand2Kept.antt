@@ -43,10 +43,11 @@ use Rattle.promises.specs.laws.ReadLaws.{Taken, filledIn, read-ways, tak
 use Rattle.promises.specs.laws.WriteLaws.{Opened, opened-good, opens, listOf-is, judgement, write-ways}
 use Rattle.promises.specs.laws.OneOperation.{one-accepted, effect-stored}
 use Rattle.promises.specs.laws.Invariant.{ran-stored, read-stored, read-alike}
-use Rattle.promises.specs.kept.CellsDo.{operations-use, reading-uses, borrow-shares, prefix-takes, decap-frees}
+use Rattle.promises.specs.kept.CellsDo.{sizes-stay, holders-stay, prefix-takes, prefix-list-takes, decap-frees, adv-erases, borrow-shares, erase-erases, inv-turns-cells, cinv-copies-cells, conc-joins-cells, asking-leaves, reading-uses}
 use Rattle.promises.specs.kept.CellsStay.{live-cells-stay}
 use Rattle.promises.specs.kept.SetUpDoes.{set-up-gives}
-use Rattle.promises.specs.laws.TextEnds.{records, plain-records}
+use Rattle.promises.specs.laws.TextEnds.{plain-records}
+use Rattle.promises.specs.laws.TextOnce.{spells-ours}
 use Rattle.promises.specs.laws.Atoms.{word-atoms}
 use Rattle.table.specs.declared.Form.{Form}
 
@@ -84,11 +85,7 @@ read-holds form ts ws h xs m k t =
 
 -- the list of a text that is taken
 text-list : (xs : List ℕ) → verdict xs .no ≡ DONE → (t : List ℕ) × Records xs (verdict xs .taken) t × (textOf (listIn xs) ≡ plain t)
-text-list xs e =
-    let m = verdict xs .taken in
-    let right = taken-verdict xs e in
-    let (t, r) = records xs m right in
-    (t, r, accepted xs m right .1 ∙ plain-records xs m t r)
+text-list xs e = spells-ours xs e .1
 
 reading : (form : Form) → ReadingGives form (ours form)
 reading form ts ws h xs m k =
@@ -180,10 +177,18 @@ pub demand2 : (form : Form) → Demand2 form (ours form)
 demand2 form = record {
   set-up-gives = set-up-gives form;
   operations-give = operation-gives form;
-  operations-use-their-cells = operations-use form;
-  borrow-shares = borrow-shares form;
+  sizes-stay = sizes-stay form;
+  holders-stay = holders-stay form;
   prefix-takes-head = prefix-takes form;
+  prefix-list-takes-head = prefix-list-takes form;
   decap-frees-to-head = decap-frees form;
+  adv-erases = adv-erases form;
+  borrow-shares = borrow-shares form;
+  erase-erases = erase-erases form;
+  inv-turns = inv-turns-cells form;
+  cinv-copies = cinv-copies-cells form;
+  conc-joins = conc-joins-cells form;
+  asking-leaves = asking-leaves form;
   live-cells-stay = live-cells-stay form;
   others-stay = others form;
   scripts-give = script-gives form;

@@ -6,18 +6,22 @@ use Prim.Native.Nat.{ℕ}
 use native.Mathlib.Omega.{arith}
 use lib.ListN.{length, getD, replicate}
 use Rattle.lists.specs.Lst.{extent}
-use Rattle.pool.specs.Pool.{elemOf}
+use Rattle.pool.specs.Pool.{Cell, Chain}
 use Rattle.pool.specs.Operations.{pfl, copy, cinv, load, read}
 use Rattle.pool.specs.Script.{PFL, BORROW, ERASE, Operation}
 use Rattle.text.specs.Marks.{listIn}
 use Rattle.text.specs.Text.{scanned, sizeFault, verdict}
 use Rattle.calls.specs.SetUp.{setUp}
+use Rattle.setup.specs.SetUp.{setUp}
 use Rattle.calls.specs.Entry.{shown}
 use Rattle.calls.specs.Read.{readingIn}
 use Rattle.calls.specs.Write.{writingIn}
 use Rattle.promises.specs.Demand1.{RefusedSetUp, RefusedRun, RefusedRead, RefusedWrite, RefusedCheck, RunWork, ReadWork, WriteWork}
-use Rattle.promises.specs.Cells.{BorrowShares, OperationsUseTheirCells, ReadingUsesItsCells}
+use Rattle.promises.specs.Erasing.{Erased, list, waited, ended}
+use Rattle.promises.specs.Cells.{BorrowShares, EraseErases, Laid, ReadingUsesItsCells}
 use Rattle.promises.specs.Demand2.{SetUpGives, RestGives}
+use Rattle.promises.specs.laws.ErasingLaws.{one-end}
+use Rattle.promises.specs.laws.TextOnce.{spells-ours}
 use Rattle.promises.specs.refuted.WrongEngines.{setsUpDirty, clearsFirst, copying, waitsInLine}
 use Rattle.promises.specs.refuted.WrongTexts.{countsRefused, keepsCells, losesRest, loadLate, takesLate}
 use Rattle.promises.specs.refuted.Computed.{computed}
@@ -87,23 +91,27 @@ unfolding computed cinv copy
 copying-refuted d =
     let t = copying .run two (zeros 4) (prefix 0 5) (zeros 2) .table in
     let o : Operation = record { code = BORROW; a = 0; b = 1; v = 0 } in
-    let e : _≡_ {A = ℕ} 2 1 = d t (zeros 4) (zeros 2) o refl refl .0 in
+    let e : _≡_ {A = ℕ} 2 1 = d t (zeros 4) (zeros 2) o refl refl .shared in
     omega arith
 
 -- two null lists in one list: the last to wait is freed first, so that the other leads the free chain
-pub waits-in-line : OperationsUseTheirCells Four waitsInLine → ⊥
+pub waits-in-line : EraseErases Four waitsInLine → ⊥
 unfolding computed pfl
 waits-in-line d =
     let t = waitsInLine .run two (zeros 4) (PFL ∷ 0 ∷ 1 ∷ 0 ∷ PFL ∷ 0 ∷ 1 ∷ 0 ∷ []) (zeros 4) .table in
     let o : Operation = record { code = ERASE; a = 0; b = 0; v = 0 } in
-    let e : _≡_ {A = ℕ} 1 2 = ap (λ (us : List ℕ). shown Four us .free) (d t (zeros 4) (zeros 2) o refl) in
+    let p = shown Four t in
+    let q = shown Four (waitsInLine .run t (zeros 4) (ERASE ∷ 0 ∷ 0 ∷ 0 ∷ []) (zeros 2) .table) in
+    let right : (ds : List Cell) × Erased 2 ds (p .free) (p .cells) 2 [] 2 = (_, list refl refl (list refl refl (waited (waited ended)))) in
+    let e : _≡_ {A = ℕ} 1 2 = one-end {g = q .free} (d t (zeros 4) (zeros 2) o refl refl .1 .1) (right .1) .free in
     omega arith
 
 -- ((1),2) in three cells: the element of the first is the second, where the late reader has the third
 pub takes-late : ReadingUsesItsCells Four takesLate → ⊥
-unfolding computed readingIn verdict scanned listIn extent load read loadLate
+unfolding computed readingIn verdict scanned listIn extent load read loadLate Laid Chain
 takes-late d =
     let three = setUp (zeros 78) 3 .table in
     let xs : List ℕ = 40 ∷ 40 ∷ 49 ∷ 41 ∷ 44 ∷ 50 ∷ 41 ∷ replicate 65 32 in
-    let e : _≡_ {A = ℕ} 3 2 = ap (λ (us : List ℕ). elemOf (shown Four us .cells) 1) (d three (zeros 6) 0 xs refl) in
+    let r = d three (zeros 6) 0 xs refl (listIn xs) (1 ∷ 2 ∷ 3 ∷ []) (spells-ours xs refl) (refl, (λ z. omega arith), (refl, (λ z. omega arith), (refl, (λ z. omega arith), refl))) in
+    let e : _≡_ {A = ℕ} 3 2 = ap (λ (c : Cell). c .elem) (r .laid .0) in
     omega arith

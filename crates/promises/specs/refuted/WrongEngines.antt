@@ -9,7 +9,7 @@ use Rattle.answers.specs.Answers.{DONE, TABLE-SIZE, UNSOUND, unless, SAME, SHAR
 use Rattle.pool.specs.Tally.{occ}
 use Rattle.pool.specs.Pool.{Pool, countOf, nextOf, setCount, setNext, holder, frees, into}
 use Rattle.pool.specs.Erase.{Dropping, step, total}
-use Rattle.pool.specs.Operations.{decap, inv}
+use Rattle.pool.specs.Operations.{decap, inv, lastOf}
 use Rattle.pool.specs.Check.{check, chained}
 use Rattle.pool.specs.Script.{PFA, DECAP, BORROW, ERASE, INV, CINV, CONC, Operation, Effect, Run, refusal, effect, tellsFirst, tellsNumber, tellsNothing, stops, goesOn, poolAfter, performed}
 use Rattle.table.specs.Fields.{putField}
@@ -161,14 +161,15 @@ lowersBehind = erasing (λ s.
     let t = stepped s in
     cond (ltb 1 (countOf (s .cells) x)) (record { free = t .free; cells = t .cells; here = nextOf (s .cells) x; waiting = t .waiting; freed = t .freed }) t)
 
--- it puts a cell that waits behind the head of the waiting chain, and so frees the earlier one first
+-- it puts a cell that waits at the end of the waiting chain: first come, first freed
 abbrev pub waitsInLine : Engine
 waitsInLine = erasing (λ s.
     let b = s .waiting in
     let t = stepped s in
     let x = t .waiting in
+    let z = lastOf (length (s .cells)) (s .cells) b in
     cond (eqb b 0 || not (eqb x (s .here))) t
-    (record { free = t .free; cells = setNext (setNext (t .cells) x (nextOf (s .cells) b)) b x; here = t .here; waiting = b; freed = t .freed }))
+    (record { free = t .free; cells = setNext (setNext (t .cells) x 0) z x; here = t .here; waiting = b; freed = t .freed }))
 
 -- DECAP that gives the tail's count another value
 abbrev recounts : (ℕ → ℕ) → Engine

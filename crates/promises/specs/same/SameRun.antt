@@ -1,11 +1,12 @@
 -- Every engine that keeps the promises stops a script where ours does, with the same table and results: the rows fix each answer, the cells
 -- each table and the lists each result. By induction on the operations.
 use mathlib.Core.Path.{_≡_, refl, sym, ap, _∙_, subst}
-use mathlib.Core.Logic.{_≢_}
+use mathlib.Core.Logic.{_≢_, inl, inr}
 use mathlib.Core.Bool.{false}
 use mathlib.Core.List.{List, [], _∷_, _++_}
-use Prim.Native.Nat.{ℕ, suc, _*_}
-use native.Mathlib.Decide.{ℕ-discrete}
+use Prim.Native.Nat.{ℕ, suc, _*_, _≤_, _<_}
+use native.Mathlib.Decide.{ℕ-discrete, decLt}
+use native.Mathlib.Omega.{arith}
 use lib.Dec.{ltb}
 use lib.ListN.{length, getD}
 use borrow.Author.Tests.{eq-eqb, ne-eqb}
@@ -14,27 +15,30 @@ use Rattle.pool.specs.Pool.{Pool}
 use Rattle.pool.specs.Operations.{erase}
 use Rattle.pool.specs.laws.EraseLaws.{erases}
 use Rattle.pool.specs.laws.SoundLaws.{denoted}
-use Rattle.pool.specs.Script.{ERASE, Operation, Effect, refusal, effect, tellsNumber, performed}
+use Rattle.pool.specs.Script.{PFA, ERASE, LENGTH, Operation, Effect, badCode, refusal, effect, tellsNumber, performed}
 use Rattle.pool.specs.laws.ScriptLaws.{allowed, effect-sound}
-use Rattle.calls.specs.Entry.{workWords, entryFault, shown, stored, over}
+use Rattle.calls.specs.Entry.{workWords, entryFault, shown, stored, over, badWork}
 use Rattle.calls.specs.laws.EntryLaws.{entry-alike}
-use Rattle.calls.specs.Run.{operations}
-use Rattle.promises.specs.Engine.{Engine}
+use Rattle.calls.specs.Run.{operations, Ran, ranIn}
+use Rattle.promises.specs.Engine.{Engine, ours}
 use Rattle.promises.specs.Rows.{Answers}
 use Rattle.promises.specs.Grounds.{operationRows}
 use Rattle.promises.specs.Machine.{Lists, says}
 use Rattle.promises.specs.Demand1.{wordsOf, alone, Stops, end, refused, done}
 use Rattle.promises.specs.Demand3.{OnlyBy, erasing}
-use Rattle.promises.specs.Keeps.{Keeps}
+use Rattle.promises.specs.Keeps.{Keeps, ours-keeps}
 use Rattle.promises.specs.laws.OperationRows.{operation-answers}
 use Rattle.promises.specs.laws.OperationLaws.{HoldsIn, operation-does}
 use Rattle.promises.specs.laws.Tables.{Good, stored-good, stored-same}
-use Rattle.promises.specs.laws.RunLaws.{passed-none}
-use Rattle.promises.specs.laws.OneOperation.{effect-stored}
+use Rattle.promises.specs.laws.RunLaws.{passed-none, runs}
+use Rattle.promises.specs.laws.ScriptDoes.{one-answer as one-answered}
+use Rattle.promises.specs.laws.TestsTell.{tells-code}
+use Rattle.promises.specs.laws.OneOperation.{one-accepted, effect-stored}
 use Rattle.promises.specs.laws.FreeCells.{Number-unique}
 use Rattle.promises.specs.kept.Demand1Kept.{one-passes}
 use Rattle.promises.specs.kept.Demand3Kept.{effect-erase}
 use Rattle.promises.specs.OneOutcome.{one-answer}
+use Rattle.promises.specs.same.OnePool.{does, one-pool, same-table}
 use Rattle.table.specs.declared.Form.{Form}
 
 abbrev zeros : List ℕ
@@ -56,6 +60,22 @@ says-erase m o n e = rw e
 rows-refusal : (form : Form) → (ts : List ℕ) (o : Operation) (n : ℕ) → Good form ts → Answers (operationRows (shown form ts) o) n → refusal (shown form ts) o ≡ n
 rows-refusal form ts o n g a = one-answer (operationRows (shown form ts) o) (refusal (shown form ts) o) n (operation-answers (shown form ts) o (g .sound)) a
 
+-- and our run of it alone
+done-alone : (form : Form) (ts ws : List ℕ) (o : Operation) → Good form ts → badWork form ts ws ≡ false → refusal (shown form ts) o ≡ DONE → ranIn form ts ws (wordsOf o) zeros .answer ≡ DONE
+unfolding operations
+done-alone form ts ws o g w e = ap (λ (r : Ran). r .answer) (runs form ts ws (wordsOf o) zeros (one-passes form ts ws o g w)) ∙ one-answered (shown form ts) o ∙ e
+
+code-fits : (o : Operation) → badCode o ≡ false → (1 ≤ o .code) × (o .code ≤ LENGTH)
+code-fits o e = (go (decLt (o .code) PFA), up (decLt LENGTH (o .code)))
+  where
+    go : Dec (o .code < PFA) → 1 ≤ o .code
+    go (yes l) = absurd (tells-code o .1 e (inl l))
+    go (no n) = omega arith
+
+    up : Dec (LENGTH < o .code) → o .code ≤ LENGTH
+    up (yes l) = absurd (tells-code o .1 e (inr l))
+    up (no n) = omega arith
+
 module _ (form : Form) (E : Engine) (K : Keeps form E) (ws : List ℕ) where
   module _ (ts : List ℕ) (o : Operation) (g : Good form ts) (w : entryFault workWords form ts (length ws) ≡ DONE) (a : Answers (operationRows (shown form ts) o) DONE) where
     -- what its rows allow is done
@@ -68,7 +88,14 @@ module _ (form : Form) (E : Engine) (K : Keeps form E) (ws : List ℕ) where
         only (done b end) = refl
 
     table-is : alone E ws ts o .table ≡ stored form ts (effect (shown form ts) o .pool)
-    table-is = K .second .operations-use-their-cells ts ws zeros o allows
+    table-is =
+        let p = shown form ts in
+        let e = rows-refusal form ts o DONE g a in
+        let d = done-alone form ts ws o g w e in
+        let code = code-fits o (allowed p o e .opened .coded) in
+        let shows : shown form (alone E ws ts o .table) ≡ shown form (ranIn form ts ws (wordsOf o) zeros .table)
+        = one-pool o p _ _ (g .sound) (code .0) (code .1) (does form E (K .second) ts ws zeros o allows) (does form (ours form) (ours-keeps form .second) ts ws zeros o d) in
+        same-table form (alone E ws ts o .table) (stored form ts (effect p o .pool)) (effect-stored form ts o g e .table) (shows ∙ ap (shown form) (one-accepted form ts ws zeros o d .table))
 
     -- the number of ERASE is that of the cells that only a reaches
     erased-are : o .code ≡ ERASE → (n : ℕ) → alone E ws ts o .results ≡ 2 ∷ n ∷ [] → 2 ∷ n ∷ [] ≡ told (effect (shown form ts) o)

@@ -1,39 +1,42 @@
 -- Every engine that keeps the promises checks and reads texts as ours does: the records of the first list end at one place.
-use mathlib.Core.Path.{_≡_, refl, sym, ap, _∙_}
-use mathlib.Core.List.{List, [], _∷_, _++_}
-use Prim.Native.Nat.{ℕ, zero, suc, _≤_, _<_}
-use native.Mathlib.Decide.{ℕ-discrete, decLt}
-use native.Mathlib.Omega.{arith}
-use lib.ListN.{length, take, drop}
+use mathlib.Core.Path.{_≡_, refl, sym, ap, _∙_, subst}
+use mathlib.Core.List.{List}
+use Prim.Native.Nat.{ℕ}
+use native.Mathlib.Decide.{ℕ-discrete}
+use lib.ListN.{take, drop}
 use Rattle.answers.specs.Answers.{DONE}
 use Rattle.text.specs.Text.{Answer, verdict, restAt}
-use Rattle.calls.specs.Read.{readingIn}
+use Rattle.text.specs.Marks.{listIn}
+use Rattle.pool.specs.Pool.{Sound}
+use Rattle.calls.specs.Entry.{shown}
+use Rattle.calls.specs.Read.{Read as Reading, readingIn}
 use Rattle.promises.specs.Engine.{Engine}
 use Rattle.promises.specs.Rows.{Row}
-use Rattle.promises.specs.TextGrounds.{TakesRecords, readRows, checkRows}
+use Rattle.promises.specs.TextGrounds.{Spells, readRows, checkRows}
 use Rattle.promises.specs.Keeps.{Keeps, ours-keeps}
 use Rattle.promises.specs.OneOutcome.{one-answer}
+use Rattle.promises.specs.laws.Tables.{Good}
+use Rattle.promises.specs.laws.ReadLaws.{entered-good, read-ways}
+use Rattle.promises.specs.laws.Invariant.{read-good}
+use Rattle.promises.specs.laws.TextOnce.{takes-once, spells-ours}
+use Rattle.promises.specs.same.OnePool.{one-read, same-table}
 use Rattle.promises.specs.same.SameParts.{by-parts-check, ReadAs, by-parts-read}
 use Rattle.promises.specs.same.SameRows.{decide, same-work}
 use Rattle.table.specs.declared.Form.{Form}
 
--- the shorter of two beginnings goes on in the longer
-goes-on : (xs : List ℕ) (m n : ℕ) → m < n → n ≤ length xs → (c : ℕ) × (ys : List ℕ) × (take n xs ≡ take m xs ++ (c ∷ ys))
-goes-on [] m n h l = absurd (omega arith)
-goes-on (x ∷ xs) m zero h l = absurd (omega arith)
-goes-on (x ∷ xs) zero (suc n) h l = (x, take n xs, refl)
-goes-on (x ∷ xs) (suc m) (suc n) h l = let (c, ys, e) = goes-on xs m n (omega arith) (omega arith) in (c, ys, ap (λ (zs : List ℕ). x ∷ zs) e)
+-- a reading that is done: the table was sound and is a table again, and the list is the text's
+module _ (form : Form) (ts ws : List ℕ) (h : ℕ) (xs : List ℕ) where
+  taken-sound : readingIn form ts ws h xs .answer ≡ DONE → Sound (shown form ts)
+  taken-sound = read-ways form ts ws h xs (λ (r : Reading). r .answer ≡ DONE → Sound (shown form ts)) (λ n us d e. absurd (d e)) (λ t e. entered-good form ts ws h xs (t .entered) .sound)
 
-not-sooner : (xs : List ℕ) (m n : ℕ) → TakesRecords xs m → TakesRecords xs n → m < n → ⊥
-not-sooner xs m n a b h = let (c, ys, e) = goes-on xs m n h (b .0) in b .1 (take m xs) c ys e .1 (a .2)
+  taken-good : readingIn form ts ws h xs .answer ≡ DONE → Good form (readingIn form ts ws h xs .table)
+  taken-good e = read-good form ts ws h xs (good-before e)
+    where
+      good-before : readingIn form ts ws h xs .answer ≡ DONE → Good form ts
+      good-before = read-ways form ts ws h xs (λ (r : Reading). r .answer ≡ DONE → Good form ts) (λ n us d e. absurd (d e)) (λ t e. entered-good form ts ws h xs (t .entered))
 
-takes-once : (form : Form) → (xs : List ℕ) (m n : ℕ) → TakesRecords xs m → TakesRecords xs n → m ≡ n
-takes-once form xs m n a b = go (decLt m n) (decLt n m)
-  where
-    go : Dec (m < n) → Dec (n < m) → m ≡ n
-    go (yes h) k = absurd (not-sooner xs m n a b h)
-    go (no h) (yes k) = absurd (not-sooner xs n m b a k)
-    go (no h) (no k) = omega arith
+  taken-spells : readingIn form ts ws h xs .answer ≡ DONE → Spells xs (readingIn form ts ws h xs .count) (listIn xs)
+  taken-spells = read-ways form ts ws h xs (λ (r : Reading). r .answer ≡ DONE → Spells xs (r .count) (listIn xs)) (λ n us d e. absurd (d e)) (λ t e. spells-ours xs (t .right))
 
 module _ (form : Form) (E : Engine) (K : Keeps form E) where
   pub same-check : (xs : List ℕ) → E .check xs ≡ verdict xs
@@ -43,7 +46,7 @@ module _ (form : Form) (E : Engine) (K : Keeps form E) where
       number = one-answer (checkRows xs) _ _ (K .first .check-refusals xs) (ours-keeps form .first .check-refusals xs)
 
       go : Dec (verdict xs .no ≡ DONE) → E .check xs .taken ≡ verdict xs .taken
-      go (yes e) = takes-once form xs _ _ (K .second .checking-takes xs (number ∙ e)) (ours-keeps form .second .checking-takes xs e)
+      go (yes e) = takes-once xs _ _ (K .second .checking-takes xs (number ∙ e)) (ours-keeps form .second .checking-takes xs e)
       go (no d) = K .first .refused-check xs (λ z. d (sym number ∙ z)) ∙ sym (ours-keeps form .first .refused-check xs d)
 
   pub same-rest : (xs : List ℕ) → E .rest xs ≡ drop (restAt xs) xs
@@ -68,11 +71,22 @@ module _ (form : Form) (E : Engine) (K : Keeps form E) where
       work : E .read ts ws h xs .work ≡ readingIn form ts ws h xs .work
       work = same-work (take 5 rows) ts ws (E .read ts ws h xs .work) (readingIn form ts ws h xs .work) (decide 5 rows (λ m. m ≡ DONE) (readingIn form ts ws h xs .answer) (ours-keeps form .first .read-refusals ts ws h xs)) (K .first .read-work ts ws h xs) (ours-keeps form .first .read-work ts ws h xs)
 
+      -- the list of the text and the free chain fix what the table shows
+      shows : readingIn form ts ws h xs .answer ≡ DONE → shown form (E .read ts ws h xs .table) ≡ shown form (readingIn form ts ws h xs .table)
+      shows e =
+          let p = shown form ts in
+          let s = taken-sound form ts ws h xs e in
+          let w = taken-spells form ts ws h xs e in
+          let count = takes-once xs _ _ (K .second .reading-takes ts ws h xs (answer ∙ e)) (w .0) in
+          one-read (listIn xs) (s .chain .0) h p _ _
+          (K .second .reading-uses-its-cells ts ws h xs (answer ∙ e) (listIn xs) (s .chain .0) (subst (λ (m : ℕ). Spells xs m (listIn xs)) (sym count) w) (s .chain .1))
+          (ours-keeps form .second .reading-uses-its-cells ts ws h xs e (listIn xs) (s .chain .0) w (s .chain .1))
+
       go : Dec (readingIn form ts ws h xs .answer ≡ DONE) → ReadAs (readingIn form ts ws h xs) (E .read ts ws h xs)
       go (yes e) = record {
         answer = answer;
-        count = takes-once form xs _ _ (K .second .reading-takes ts ws h xs (answer ∙ e)) (ours-keeps form .second .reading-takes ts ws h xs e);
-        table = K .second .reading-uses-its-cells ts ws h xs (answer ∙ e) ∙ sym (ours-keeps form .second .reading-uses-its-cells ts ws h xs e);
+        count = takes-once xs _ _ (K .second .reading-takes ts ws h xs (answer ∙ e)) (ours-keeps form .second .reading-takes ts ws h xs e);
+        table = same-table form (E .read ts ws h xs .table) (readingIn form ts ws h xs .table) (taken-good form ts ws h xs e .table) (shows e);
         work = work;
       }
       go (no d) =
