@@ -1,5 +1,5 @@
--- The cases of document 01 that are marked P: one table under one theorem about the definitions. Each text is filled to a record and checked;
--- if it is a list it is read into holder 0 of a new pool, and operations are performed on that.
+-- The cases of document 01 that are marked P, and one more with two cells waiting: one table under one theorem about the definitions. Each text
+-- is filled to a record and checked; if it is a list it is read into holder 0 of a new pool, and operations are performed on that.
 use Prim.Native.String.{String}
 use mathlib.Core.Path.{_≡_, refl}
 use mathlib.Core.Bool.{cond}
@@ -83,6 +83,7 @@ cases =
     of-text "(1(2))" ∷
     of-text "(8)" ∷
     record { text = "((3),1)"; cells = 4; script = ERASE ∷ 0 ∷ 0 ∷ 0 ∷ [] } ∷
+    record { text = "((1),(2))"; cells = 4; script = ERASE ∷ 0 ∷ 0 ∷ 0 ∷ [] } ∷
     record { text = "()"; cells = 1; script = PFL ∷ 0 ∷ 1 ∷ 0 ∷ [] } ∷
     []
 
@@ -103,8 +104,9 @@ stated =
     refusedRow 15 ∷
     refusedRow 15 ∷
     refusedRow 15 ∷
-    record { answer = DONE; figures = 2 ∷ 2 ∷ 3 ∷ 7 ∷ []; text = chars "((3),1)"; backwards = chars "(1,(3))"; results = numberKind ∷ 3 ∷ []; after = chars "()"; free = 2 ∷ 1 ∷ 3 ∷ 4 ∷ [] } ∷
-    record { answer = DONE; figures = 0 ∷ 1 ∷ 0 ∷ 2 ∷ []; text = chars "()"; backwards = chars "()"; results = nothingKind ∷ 0 ∷ []; after = chars "(())"; free = [] } ∷
+    record { answer = DONE; figures = 2 ∷ 2 ∷ 3 ∷ 7 ∷ []; text = chars "((3),1)"; backwards = chars "(1,(3))"; results = 2 ∷ 3 ∷ []; after = chars "()"; free = 2 ∷ 1 ∷ 3 ∷ 4 ∷ [] } ∷
+    record { answer = DONE; figures = 2 ∷ 2 ∷ 4 ∷ 9 ∷ []; text = chars "((1),(2))"; backwards = chars "((2),(1))"; results = 2 ∷ 4 ∷ []; after = chars "()"; free = 2 ∷ 1 ∷ 4 ∷ 3 ∷ [] } ∷
+    record { answer = DONE; figures = 0 ∷ 1 ∷ 0 ∷ 2 ∷ []; text = chars "()"; backwards = chars "()"; results = 3 ∷ 0 ∷ []; after = chars "(())"; free = [] } ∷
     []
 
 pub edges : map row cases ≡ stated
