@@ -11,7 +11,6 @@ use Rattle.lists.specs.Lst.{Lst, extent}
 use Rattle.pool.specs.Tally.{occ}
 use Rattle.pool.specs.Pool.{holder, ListAt, frees}
 use Rattle.text.specs.Limits.{levels, recordBytes, textMost, digitsMost, atomsEnd}
-use Rattle.text.specs.Marks.{listIn}
 use Rattle.text.specs.ListText.{textOf, isDigit, bare}
 use Rattle.text.specs.Writing.{usable, depthAfter}
 use Rattle.calls.specs.Entry.{workWords, shown}
@@ -139,7 +138,9 @@ beforeReading form ts ws h xs =
     ∷ faultRows xs))
 
 abbrev pub readRows : (form : Form) → List ℕ → List ℕ → ℕ → List ℕ → List Row
-readRows form ts ws h xs = beforeReading form ts ws h xs ++ (row NO-ROOM (frees (shown form ts .cells) < extent (listIn xs)) ∷ [])
+readRows form ts ws h xs =
+    beforeReading form ts ws h xs
+    ++ (row NO-ROOM ((m : ℕ) × (l : Lst) × Spells xs m l × (frees (shown form ts .cells) < extent l)) ∷ [])
 
 -- writing
 

@@ -32,12 +32,13 @@ use Rattle.calls.specs.Run.{Ran, operations, scriptFault, notRun, ranTo, ranIn}
 use Rattle.calls.specs.Read.{Read as Reading, notRead, readingIn}
 use Rattle.calls.specs.Write.{Write, notWritten, writeList, writingIn}
 use Rattle.promises.specs.Engine.{ours}
-use Rattle.promises.specs.Rows.{Row, row, Answers}
-use Rattle.promises.specs.Grounds.{Unsound, setUpRows, entryRows, scriptRows, operationRows}
-use Rattle.promises.specs.TextGrounds.{readRows, sizeRows, faultRows, writeRows, Has, TooDeep}
+use Rattle.promises.specs.Rows.{Row, row, Answers, First}
+use Rattle.promises.specs.Grounds.{Unsound, setUpRows, entryRows, scriptRows, operationRows, runRows}
+use Rattle.promises.specs.TextGrounds.{readRows, sizeRows, faultRows, writeRows, Has, TooDeep, Spells}
 use Rattle.promises.specs.Demand1.{wordsOf, alone, Stops, end, refused, done, Demand1, SetUpRefusals, RunRefusals, ReadRefusals, WriteRefusals, ScriptsStop, RefusedRun}
-use Rattle.promises.specs.laws.Tells.{tells-eq, tells-lt, tells-not, first, unless-first}
-use Rattle.promises.specs.laws.TestsTell.{tells-size, entry-answers, entry-each, script-answers, script-each, size-answers, size-each, tells-unsound, tells-holder}
+use Rattle.promises.specs.laws.Tells.{tells-eq, tells-lt, tells-not, first, unless-first, Tells, tells-as, rows-before}
+use Rattle.promises.specs.laws.TestsTell.{tells-size, entry-answers, entry-each, script-answers, script-each, size-answers, size-each, tells-unsound, tells-holder, tells-table, tells-work, tells-script, tells-results, tells-text}
+use Rattle.promises.specs.laws.TextOnce.{spells-once, spells-ours}
 use Rattle.promises.specs.laws.OperationRows.{operation-answers}
 use Rattle.promises.specs.laws.TextRows.{scan-answers, check-answers, check-refused}
 use Rattle.promises.specs.laws.WriteRows.{judged-answers}
@@ -91,8 +92,8 @@ read-rows form ts ws h xs =
     unless-first (sizeRows xs) (rows 5) (sizeFault xs) (size-each xs) (size-answers xs) of-read done? refuse sounding (λ _. refl) (λ s.
     first of-read (later 6) (unsound form ts) (notRead UNSOUND ts (used form ts ws)) filling (tells-unsound form ts) refl (λ _.
     first of-read (later 7) (not (eqb (holder (shown form ts) h) 0)) (notRead OCCUPIED ts (used form ts ws)) judging (tells-not (eqb (holder (shown form ts) h) 0) (tells-eq (holder (shown form ts) h) 0)) refl (λ _.
-    unless-first (faultRows xs) (rows 10) (verdict xs .no) ((λ z. omega arith), ((λ z. omega arith), ((λ z. omega arith), tt))) (faults (right-size xs s)) of-read done? refuseUsed fitting (λ _. refl) (λ _.
-    first of-read done? (ltb (frees (shown form ts .cells)) (extent (listIn xs))) (notRead NO-ROOM ts (used form ts ws)) (filledIn form ts ws h xs) (tells-lt (frees (shown form ts .cells)) (extent (listIn xs))) refl (λ _. refl)))))))
+    unless-first (faultRows xs) (rows 10) (verdict xs .no) ((λ z. omega arith), ((λ z. omega arith), ((λ z. omega arith), tt))) (faults (right-size xs s)) of-read done? refuseUsed fitting (λ _. refl) (λ e.
+    first of-read done? (ltb (frees (shown form ts .cells)) (extent (listIn xs))) (notRead NO-ROOM ts (used form ts ws)) (filledIn form ts ws h xs) (tells-room-read e) refl (λ _. refl)))))))
   where
     done? : ℕ → Type 0
     done? m = m ≡ DONE
@@ -130,6 +131,13 @@ read-rows form ts ws h xs =
 
     faults : verdict xs ≡ scanned xs → Answers (faultRows xs) (verdict xs .no)
     faults e = subst (λ (r : Answer). Answers (faultRows xs) (r .no)) (sym e) (scan-answers xs)
+
+    -- the list of the text is one, and it is the one read
+    tells-room-read : verdict xs .no ≡ DONE → Tells (ltb (frees (shown form ts .cells)) (extent (listIn xs))) ((m : ℕ) × (l : Lst) × Spells xs m l × (frees (shown form ts .cells) < extent l))
+    tells-room-read e =
+        let w = spells-ours xs e in
+        tells-as (tells-lt (frees (shown form ts .cells)) (extent (listIn xs))) (λ f. (verdict xs .taken, listIn xs, w, f))
+        (λ (m, l, d, f). subst (λ (k : Lst). frees (shown form ts .cells) < extent k) (spells-once xs m (verdict xs .taken) l (listIn xs) d w .1) f)
 
 abbrev of-write : Write → ℕ
 of-write r = r .answer

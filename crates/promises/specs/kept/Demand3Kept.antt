@@ -6,7 +6,7 @@ use Prim.Native.Nat.{ℕ, _+_, _<_}
 use native.Mathlib.Omega.{arith}
 use lib.ListN.{length, getD, drop}
 use Rattle.answers.specs.Answers.{DONE}
-use Rattle.lists.specs.Lst.{extent}
+use Rattle.lists.specs.Lst.{Lst, extent}
 use Rattle.pool.specs.Pool.{Pool, Live, lives, frees, Sound}
 use Rattle.pool.specs.Operations.{erase}
 use Rattle.pool.specs.laws.EraseLaws.{erases}
@@ -15,13 +15,13 @@ use Rattle.pool.specs.Tally.{Number}
 use Rattle.pool.specs.laws.Room.{frees-lives}
 use Rattle.pool.specs.laws.SoundLaws.{sound-held, denoted}
 use Rattle.text.specs.Marks.{listIn}
-use Rattle.calls.specs.Entry.{workWords, badTable, shown, unsound, over}
+use Rattle.calls.specs.Entry.{workWords, badTable, shown, unsound, over, badWork}
 use Rattle.calls.specs.Run.{Ran, operations, ranIn}
 use Rattle.calls.specs.Read.{readingIn}
 use Rattle.promises.specs.Engine.{ours}
 use Rattle.promises.specs.Rows.{None}
 use Rattle.promises.specs.Grounds.{NoRoom, entryRows}
-use Rattle.promises.specs.TextGrounds.{beforeReading, readRows}
+use Rattle.promises.specs.TextGrounds.{beforeReading, readRows, Spells}
 use Rattle.promises.specs.Demand1.{wordsOf}
 use Rattle.promises.specs.Demand3.{Free, Used, OnlyBy, erasing, Lent, Demand3, NoRoomToPerform, NoRoomToRead}
 use Rattle.promises.specs.laws.Tells.{passed-over, last-row, none-answered}
@@ -30,6 +30,7 @@ use Rattle.promises.specs.laws.OperationRows.{room-answers}
 use Rattle.promises.specs.laws.Tables.{Good, good, good-table, good-sound, fails}
 use Rattle.promises.specs.laws.RunLaws.{Passed, runs}
 use Rattle.promises.specs.laws.ScriptDoes.{one-answer}
+use Rattle.promises.specs.laws.TextOnce.{spells-once}
 use Rattle.promises.specs.laws.OneOperation.{one-accepted, effect-stored}
 use Rattle.promises.specs.laws.Invariant.{reached-good}
 use Rattle.promises.specs.laws.FreeCells.{free-or-live, live-not-free, used-live, live-used, number-used, Number-unique, erase-frees-cells}
@@ -80,11 +81,13 @@ room-run form ts ws rs o k n r w l b c d =
     either-end ((λ q. a .0 (sym e ∙ q)), (λ q. e ∙ a .1 q)) (either-end m (room-counted (shown form ts) (g .sound) k n c))
 
 room-read : (form : Form) → NoRoomToRead form (ours form)
-room-read form ts ws h xs k r w n s v f c =
+room-read form ts ws h xs k m l r w n s v f c spelt =
     let g = lent-good form r in
     let b : None (beforeReading form ts ws h xs) = (tells-table form ts .1 (good-table form ts g), (w, (n, (s .0, (s .1 .0, ((λ u. u (g .sound)), ((λ u. u v), f))))))) in
     let a = last-row (λ z. omega arith) (passed-over (beforeReading form ts ws h xs) (drop 10 (readRows form ts ws h xs)) (λ m. m ≡ DONE) (readingIn form ts ws h xs .answer) b (demand1 form .read-refusals ts ws h xs)) in
-    either-end a (room-counted (shown form ts) (g .sound) k (extent (listIn xs)) c)
+    let told : ((j : ℕ) × (i : Lst) × Spells xs j i × (frees (shown form ts .cells) < extent i)) ↔ (frees (shown form ts .cells) < extent l)
+    = ((λ (j, i, d, e). subst (λ (u : Lst). frees (shown form ts .cells) < extent u) (spells-once xs j m i l d spelt .1) e), (λ e. (m, l, spelt, e))) in
+    either-end a (either-end told (room-counted (shown form ts) (g .sound) k (extent l) c))
 
 pub demand3 : (form : Form) → Demand3 form (ours form)
 demand3 form = record {
