@@ -2,9 +2,9 @@
 -- cells are shared, in the cells that document 01 names; reading and writing keep to the text form, and each undoes the other.
 use mathlib.Core.Path.{_≡_}
 use mathlib.Core.Logic.{_≢_}
-use mathlib.Core.List.{List, [], _++_}
+use mathlib.Core.List.{List, _++_}
 use Prim.Native.Nat.{ℕ, _+_, _*_, _≤_, _<_, _^_}
-use lib.ListN.{length, getD, take, drop}
+use lib.ListN.{length, getD, take}
 use Rattle.answers.specs.Answers.{DONE}
 use Rattle.lists.specs.Lst.{Lst, order, extent}
 use Rattle.pool.specs.Pool.{Pool, kindOf, elemOf, countOf, nextOf, holder, frees, Sound}
@@ -98,9 +98,12 @@ CheckingTakes E = (xs : List ℕ) → let r = E .check xs in r .no ≡ DONE → 
 abbrev pub ReadingTakes : Engine → Type 0
 ReadingTakes E = (ts ws : List ℕ) (h : ℕ) (xs : List ℕ) → let r = E .read ts ws h xs in r .answer ≡ DONE → TakesRecords xs (r .count)
 
--- the further call gives the records behind those that the check takes, and where it refuses the empty part
+-- the further call hands back what stands behind the records that the check takes, and where it refuses the empty part at
+-- the end
 abbrev pub RestGives : Engine → Type 0
-RestGives E = (xs : List ℕ) → let r = E .check xs in (r .no ≡ DONE → E .rest xs ≡ drop (r .taken) xs) × (r .no ≢ DONE → E .rest xs ≡ [])
+RestGives E =
+    (xs : List ℕ) → let r = E .check xs in
+    (r .no ≡ DONE → E .rest xs ≡ r .taken) × (r .no ≢ DONE → E .rest xs ≡ length xs)
 
 -- writing gives the text of the list, and the bytes written
 abbrev pub WritingGives : (form : Form) → Engine → Type 0

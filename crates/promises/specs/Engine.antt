@@ -2,7 +2,6 @@
 use mathlib.Core.Path.{_≡_}
 use mathlib.Core.List.{List}
 use Prim.Native.Nat.{ℕ}
-use lib.ListN.{drop}
 use Rattle.answers.specs.Answers.{DONE}
 use Rattle.text.specs.Text.{Answer, verdict, restAt}
 use Rattle.calls.specs.SetUp.{Given, setUpIn}
@@ -23,18 +22,11 @@ pub record Engine : Type 0 where
   pub write : List ℕ → List ℕ → ℕ → List ℕ → Write
   -- text
   pub check : List ℕ → Answer
-  -- text; the records after the first list
-  pub rest : List ℕ → List ℕ
+  -- text; where the records after the first list begin
+  pub rest : List ℕ → ℕ
 
 abbrev pub ours : (form : Form) → Engine
-ours form = record {
-  setUp = setUpIn form;
-  run = ranIn form;
-  read = readingIn form;
-  write = writingIn form;
-  check = verdict;
-  rest = λ xs. drop (restAt xs) xs;
-}
+ours form = record { setUp = setUpIn form; run = ranIn form; read = readingIn form; write = writingIn form; check = verdict; rest = restAt }
 
 -- the tables that an engine's calls can make, from a set-up that is done on, whatever the arguments and the answers
 pub data Reached (E : Engine) : List ℕ → Type 0 where

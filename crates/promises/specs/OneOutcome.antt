@@ -6,8 +6,9 @@ use mathlib.Core.List.{List, [], _∷_}
 use Prim.Native.Nat.{ℕ}
 use Rattle.answers.specs.Answers.{outcome}
 use Rattle.answers.specs.declared.Outcome.{Outcome}
-use Rattle.text.specs.Text.{verdict}
+use Rattle.text.specs.Text.{verdict, restAt}
 use Rattle.calls.specs.SetUp.{setUpIn}
+use Rattle.setup.specs.SetUp.{setUp, setUpIn}
 use Rattle.calls.specs.Run.{ranIn}
 use Rattle.calls.specs.Read.{readingIn}
 use Rattle.calls.specs.Contracts.{SetsUp, Runs, Reads, Writes}
@@ -37,6 +38,10 @@ one-write form ts ws h out a b = (a .outcome ∙ sym (b .outcome), a .work ∙ s
 -- the text check
 pub one-check : (xs : List ℕ) {r s : Outcome} → r ≡ outcome (verdict xs .no) (verdict xs .taken) → s ≡ outcome (verdict xs .no) (verdict xs .taken) → r ≡ s
 one-check xs a b = a ∙ sym b
+
+-- the further call
+pub one-rest : (xs : List ℕ) {r s : ℕ} → r ≡ restAt xs → s ≡ restAt xs → r ≡ s
+one-rest xs a b = a ∙ sym b
 
 -- one answer for one input, by the rows
 

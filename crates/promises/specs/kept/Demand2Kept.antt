@@ -6,7 +6,7 @@ use Prim.Native.Nat.{ℕ, _*_, _≤_, _<_}
 use native.Mathlib.Omega.{arith}
 use lib.Dec.{eqb, leb}
 use lib.ListN.{length, take, drop}
-use lib.Seq.{take-append-seam, drop-length}
+use lib.Seq.{take-append-seam}
 use package.borrow.Author.Tests.{le-ltb, lt-leb, eq-eqb, ne-eqb}
 use Rattle.answers.specs.Answers.{DONE, TEXT-SIZE, END}
 use Rattle.lists.specs.Lst.{Lst, extent}
@@ -96,10 +96,10 @@ checking : (form : Form) → CheckingGives (ours form)
 checking form xs e = let (t, r, q) = text-list xs e in (listIn xs, t, r, q)
 
 after-list : (form : Form) → RestGives (ours form)
-after-list form xs = ((λ e. ap begins (eq-eqb (verdict xs .no) 0 e)), (λ n. ap begins (ne-eqb (verdict xs .no) 0 n) ∙ drop-length xs))
+after-list form xs = ((λ e. ap begins (eq-eqb (verdict xs .no) 0 e)), (λ n. ap begins (ne-eqb (verdict xs .no) 0 n)))
   where
-    begins : Bool → List ℕ
-    begins b = drop (cond b (verdict xs .taken) (length xs)) xs
+    begins : Bool → ℕ
+    begins b = cond b (verdict xs .taken) (length xs)
 
 abbrev writing : (form : Form) → List ℕ → List ℕ → Lst → List ℕ → Write
 writing form ts ws l out = record { answer = DONE; count = length (written l); work = used form ts ws; output = over (written l) out }

@@ -4,7 +4,7 @@ use mathlib.Core.Logic.{inl}
 use mathlib.Core.List.{List, [], _∷_, _++_}
 use Prim.Native.Nat.{ℕ}
 use native.Mathlib.Omega.{arith}
-use lib.ListN.{length, getD, replicate}
+use lib.ListN.{getD, replicate}
 use Rattle.lists.specs.Lst.{extent}
 use Rattle.pool.specs.Pool.{Cell, Chain}
 use Rattle.pool.specs.Operations.{pfl, copy, cinv, load, read}
@@ -23,7 +23,7 @@ use Rattle.promises.specs.Demand2.{SetUpGives, RestGives}
 use Rattle.promises.specs.laws.ErasingLaws.{one-end}
 use Rattle.promises.specs.laws.TextOnce.{spells-ours}
 use Rattle.promises.specs.refuted.WrongEngines.{setsUpDirty, clearsFirst, copying, waitsInLine}
-use Rattle.promises.specs.refuted.WrongTexts.{countsRefused, keepsCells, losesRest, loadLate, takesLate}
+use Rattle.promises.specs.refuted.WrongTexts.{countsRefused, keepsCells, losesRest, restAtStart, loadLate, takesLate}
 use Rattle.promises.specs.refuted.Computed.{computed}
 use Rattle.promises.specs.refuted.Refuted.{zeros, prefix, two}
 use Rattle.table.specs.declared.Form.the-variants.{Four}
@@ -83,7 +83,12 @@ text = 40 ∷ 41 ∷ (replicate 70 32 ++ replicate 72 40)
 
 pub loses-rest : RestGives losesRest → ⊥
 unfolding sizeFault verdict scanned
-loses-rest d = let e : _≡_ {A = List ℕ} [] (replicate 72 40) = d text .0 refl in omega (arith, ap length e)
+loses-rest d = let e : _≡_ {A = ℕ} 144 72 = d text .0 refl in omega arith
+
+-- a record of "(" is no list, and its end is at 72
+pub rest-at-start : RestGives restAtStart → ⊥
+unfolding sizeFault verdict scanned
+rest-at-start d = let e : _≡_ {A = ℕ} 0 72 = d (replicate 72 40) .1 (λ z. omega arith) in omega arith
 
 -- after PFA to holder 0, BORROW of it is another cell
 pub copying-refuted : BorrowShares Four copying → ⊥

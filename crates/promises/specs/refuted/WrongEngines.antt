@@ -34,7 +34,7 @@ alwaysRefuses = record {
   read = λ ts ws h xs. notRead TABLE-SIZE ts ws;
   write = λ ts ws h out. notWritten TABLE-SIZE ws out;
   check = λ xs. record { no = 15; taken = 0 };
-  rest = λ xs. [];
+  rest = length;
 }
 
 -- has our answers and changes nothing

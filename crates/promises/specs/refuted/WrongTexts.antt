@@ -78,9 +78,17 @@ loadLate (list e l) f cs =
 abbrev pub takesLate : Engine
 takesLate = placing (λ p h l. let z = loadLate l (p .free) (p .cells) in record { free = z .free; holders = set (p .holders) h (z .head); cells = z .cells })
 
+-- ours with another further call
+abbrev handing : (List ℕ → ℕ) → Engine
+handing f = record { setUp = ours Four .setUp; run = ours Four .run; read = ours Four .read; write = ours Four .write; check = ours Four .check; rest = f }
+
 -- hands nothing back
 abbrev pub losesRest : Engine
-losesRest = record { setUp = ours Four .setUp; run = ours Four .run; read = ours Four .read; write = ours Four .write; check = ours Four .check; rest = λ xs. [] }
+losesRest = handing length
+
+-- hands back the empty part at the start where the check refuses
+abbrev pub restAtStart : Engine
+restAtStart = handing (λ xs. verdict xs .taken)
 
 -- ours with another text of a list
 abbrev writing : (Lst → List ℕ) → Engine

@@ -3,7 +3,7 @@ use mathlib.Core.Path.{_≡_, refl, sym, ap, _∙_, subst}
 use mathlib.Core.List.{List}
 use Prim.Native.Nat.{ℕ}
 use native.Mathlib.Decide.{ℕ-discrete}
-use lib.ListN.{take, drop}
+use lib.ListN.{take}
 use Rattle.answers.specs.Answers.{DONE}
 use Rattle.text.specs.Text.{Answer, verdict, restAt}
 use Rattle.text.specs.Marks.{listIn}
@@ -49,14 +49,14 @@ module _ (form : Form) (E : Engine) (K : Keeps form E) where
       go (yes e) = takes-once xs _ _ (K .second .checking-takes xs (number ∙ e)) (ours-keeps form .second .checking-takes xs e)
       go (no d) = K .first .refused-check xs (λ z. d (sym number ∙ z)) ∙ sym (ours-keeps form .first .refused-check xs d)
 
-  pub same-rest : (xs : List ℕ) → E .rest xs ≡ drop (restAt xs) xs
+  pub same-rest : (xs : List ℕ) → E .rest xs ≡ restAt xs
   same-rest xs = go (ℕ-discrete (verdict xs .no) DONE)
     where
       number : E .check xs .no ≡ verdict xs .no
       number = ap (λ (r : Answer). r .no) (same-check xs)
 
-      go : Dec (verdict xs .no ≡ DONE) → E .rest xs ≡ drop (restAt xs) xs
-      go (yes e) = K .second .rest-gives xs .0 (number ∙ e) ∙ ap (λ (r : Answer). drop (r .taken) xs) (same-check xs) ∙ sym (ours-keeps form .second .rest-gives xs .0 e)
+      go : Dec (verdict xs .no ≡ DONE) → E .rest xs ≡ restAt xs
+      go (yes e) = K .second .rest-gives xs .0 (number ∙ e) ∙ ap (λ (r : Answer). r .taken) (same-check xs) ∙ sym (ours-keeps form .second .rest-gives xs .0 e)
       go (no d) = K .second .rest-gives xs .1 (λ z. d (sym number ∙ z)) ∙ sym (ours-keeps form .second .rest-gives xs .1 d)
 
   pub same-read : (ts ws : List ℕ) (h : ℕ) (xs : List ℕ) → E .read ts ws h xs ≡ readingIn form ts ws h xs
