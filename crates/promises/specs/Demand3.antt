@@ -67,15 +67,12 @@ EraseCounts form E =
     (ts ws rs : List ℕ) (a b v : ℕ) → let r = E .run ts ws (erasing a b v) rs in
     r .answer ≡ DONE → (getD (r .results) 0 0 ≡ numberKind) × Number (OnlyBy (shown form ts) a) (length (shown form ts .cells)) (getD (r .results) 1 0)
 
--- the cells reached can be counted
-abbrev pub ReachedCounted : (form : Form) → Engine → Type 0
-ReachedCounted form E = (ts : List ℕ) → Reached E ts → (k : ℕ) × Number (Used (shown form ts)) (length (shown form ts .cells)) k
-
 -- a table that the engine's calls can make, or any sound one of a right size
 abbrev pub Lent : (form : Form) → Engine → List ℕ → Type 0
 Lent form E ts = Reached E ts ⊎ ((BadTable form ts → ⊥) × Sound (shown form ts))
 
--- where all rows before it are passed, NO ROOM tells that reached and needed cells are together more than there are
+-- where all rows before it are passed, NO ROOM tells that reached and needed cells are together more than there are; the
+-- cells reached can be counted in any pool, so that is no promise of an engine (in a sound one `number-used` does)
 abbrev pub NoRoomToPerform : (form : Form) → Engine → Type 0
 NoRoomToPerform form E =
     (ts ws rs : List ℕ) (o : Operation) (k n : ℕ) → Lent form E ts → (BadWork workWords ts ws → ⊥) → resultWords ≤ length rs → None (beforeRoom (shown form ts) o)
@@ -97,6 +94,5 @@ pub record Demand3 (form : Form) (E : Engine) : Type 0 where
   pub never-both : NeverBoth form E
   pub erase-frees : EraseFrees form E
   pub erase-counts : EraseCounts form E
-  pub reached-counted : ReachedCounted form E
   pub no-room-to-perform : NoRoomToPerform form E
   pub no-room-to-read : NoRoomToRead form E

@@ -1,8 +1,11 @@
 pub mod WrongEngines
 pub mod WrongTexts
+pub mod WrongCells
 pub mod Computed
 pub mod Refuted
 pub mod SlipsRefuted
 pub mod LooseRefuted
 pub mod RunsRefuted
 pub mod TextRefuted
+pub mod CellsRefuted
+pub mod AnswersRefuted

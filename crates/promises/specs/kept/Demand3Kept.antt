@@ -99,7 +99,6 @@ demand3 form = record {
   erase-frees = λ ts ws rs a b v e c i. subst (λ (q : Pool). ((Free (shown form ts) c → ⊥) × Free q c) ↔ OnlyBy (shown form ts) a c) (sym (erased form ts ws rs a b v e .0)) (erase-frees-cells (shown form ts) (erased-sound form ts ws rs a b v e) a c i);
   erase-counts = λ ts ws rs a b v e. subst (λ (qs : List ℕ). (getD qs 0 0 ≡ numberKind) × Number (OnlyBy (shown form ts) a) (length (shown form ts .cells)) (getD qs 1 0)) (sym (erased form ts ws rs a b v e .1))
       (refl, erases (shown form ts) a (erased-sound form ts ws rs a b v e) .number);
-  reached-counted = λ ts r. let g = reached-good form r in (lives (shown form ts .cells), number-used (shown form ts) (g .sound));
   no-room-to-perform = room-run form;
   no-room-to-read = room-read form;
 }

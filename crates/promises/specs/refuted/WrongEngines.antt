@@ -23,7 +23,7 @@ use Rattle.promises.specs.Engine.{Engine, ours}
 use Rattle.table.specs.declared.Form.the-variants.{Four}
 
 -- ours with another script run
-abbrev running : (List ℕ → List ℕ → List ℕ → List ℕ → Ran) → Engine
+abbrev pub running : (List ℕ → List ℕ → List ℕ → List ℕ → Ran) → Engine
 running f = record { setUp = ours Four .setUp; run = f; read = ours Four .read; write = ours Four .write; check = ours Four .check; rest = ours Four .rest }
 
 -- refuses whatever it is asked
@@ -37,12 +37,23 @@ alwaysRefuses = record {
   rest = length;
 }
 
+-- has one answer, n, for every call, and does nothing
+abbrev pub alwaysAnswers : ℕ → Engine
+alwaysAnswers n = record {
+  setUp = λ ts k. record { answer = n; table = ts };
+  run = λ ts ws ss rs. notRun n ts ws rs;
+  read = λ ts ws h xs. notRead n ts ws;
+  write = λ ts ws h out. notWritten n ws out;
+  check = λ xs. record { no = n; taken = 0 };
+  rest = length;
+}
+
 -- has our answers and changes nothing
 abbrev pub doesNothing : Engine
 doesNothing = running (λ ts ws ss rs. let r = ran ts ws ss rs in record { answer = r .answer; count = r .count; table = ts; work = ws; results = rs })
 
 -- ours with another table afterwards
-abbrev leaving : (List ℕ → List ℕ → List ℕ → List ℕ → List ℕ) → Engine
+abbrev pub leaving : (List ℕ → List ℕ → List ℕ → List ℕ → List ℕ) → Engine
 leaving f = running (λ ts ws ss rs. let r = ran ts ws ss rs in record { answer = r .answer; count = r .count; table = f ts ws ss rs; work = r .work; results = r .results })
 
 -- does a script's first operation, and leaves the table at that
@@ -53,7 +64,7 @@ firstOnly = leaving (λ ts ws ss rs. ran ts ws (take 4 ss) rs .table)
 abbrev pub undoesAll : Engine
 undoesAll = running (λ ts ws ss rs. let r = ran ts ws ss rs in cond (eqb (r .answer) DONE) r (notRun (r .answer) ts (r .work) rs))
 
-abbrev starts : ℕ → List ℕ → Bool
+abbrev pub starts : ℕ → List ℕ → Bool
 starts c ss = eqb (getD ss 0 0) c
 
 -- makes up the number of ERASE
@@ -105,7 +116,7 @@ ranBy sound perform ts ws ss rs =
     (cond (not (sound (shown Four ts))) (notRun UNSOUND ts (used Four ts ws) rs)
     (ranTo Four (perform (shown Four ts) (operations ss)) ts ws rs)))
 
-abbrev ruled : (Pool → Operation → ℕ) → (Pool → Operation → Effect) → Engine
+abbrev pub ruled : (Pool → Operation → ℕ) → (Pool → Operation → Effect) → Engine
 ruled f g = running (ranBy check (performedBy f g))
 
 -- passes over a refused operation: the answer and the number done are right, and the later ones are done too

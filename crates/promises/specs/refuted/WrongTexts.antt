@@ -4,22 +4,22 @@ use mathlib.Core.List.{List, [], _∷_}
 use Prim.Native.Nat.{ℕ}
 use lib.Dec.{eqb}
 use lib.ListN.{length, set}
-use Rattle.answers.specs.Answers.{DONE, NOT-A-LIST, ATOM}
-use Rattle.lists.specs.Lst.{Lst, nil, atom, list, reversed}
-use Rattle.pool.specs.Pool.{Cell, Pool, put, nextOf}
+use Rattle.answers.specs.Answers.{DONE, OCCUPIED, NO-ROOM, NOT-A-LIST, ATOM, OUTPUT}
+use Rattle.lists.specs.Lst.{Lst, nil, atom, list, extent, reversed}
+use Rattle.pool.specs.Pool.{Cell, Pool, put, nextOf, frees}
 use Rattle.pool.specs.Operations.{Made, read, listOf}
 use Rattle.text.specs.Marks.{listIn}
 use Rattle.text.specs.ListText.{textOf, isDigit}
 use Rattle.text.specs.Text.{Answer, State, at, refused, taken, place, begin, next, answer, verdict}
 use Rattle.calls.specs.Entry.{shown, stored, over}
-use Rattle.calls.specs.Read.{Read, readIn}
+use Rattle.calls.specs.Read.{Read, notRead, readIn}
 use Rattle.calls.specs.Write.{Write, writeOut}
 use Rattle.promises.specs.Engine.{Engine, ours}
 use Rattle.promises.specs.Demand2.{filled}
 use Rattle.table.specs.declared.Form.the-variants.{Four}
 
 -- ours with another reader and another check
-abbrev taking : (List ℕ → List ℕ → ℕ → List ℕ → Read) → (List ℕ → Answer) → Engine
+abbrev pub taking : (List ℕ → List ℕ → ℕ → List ℕ → Read) → (List ℕ → Answer) → Engine
 taking f g = record { setUp = ours Four .setUp; run = ours Four .run; read = f; write = ours Four .write; check = g; rest = ours Four .rest }
 
 -- a text check with a number beside its refusal
@@ -82,6 +82,14 @@ takesLate = placing (λ p h l. let z = loadLate l (p .free) (p .cells) in record
 abbrev handing : (List ℕ → ℕ) → Engine
 handing f = record { setUp = ours Four .setUp; run = ours Four .run; read = ours Four .read; write = ours Four .write; check = ours Four .check; rest = f }
 
+-- reads into a holder that has a list
+abbrev pub readsOver : Engine
+readsOver = taking (λ ts ws h xs. let r = readIn ts ws h xs in record { answer = cond (eqb (r .answer) OCCUPIED) DONE (r .answer); count = r .count; table = r .table; work = r .work }) verdict
+
+-- keeps one cell back: a list that would take all that are free has no room
+abbrev pub keepsOneBack : Engine
+keepsOneBack = taking (λ ts ws h xs. let r = readIn ts ws h xs in cond (eqb (r .answer) DONE && eqb (frees (shown Four ts .cells)) (extent (listIn xs))) (notRead NO-ROOM ts (r .work)) r) verdict
+
 -- hands nothing back
 abbrev pub losesRest : Engine
 losesRest = handing length
@@ -89,6 +97,17 @@ losesRest = handing length
 -- hands back the empty part at the start where the check refuses
 abbrev pub restAtStart : Engine
 restAtStart = handing (λ xs. verdict xs .taken)
+
+-- writes what the output takes, and answers that all is done
+abbrev pub writesWhatFits : Engine
+writesWhatFits = record {
+  setUp = ours Four .setUp;
+  run = ours Four .run;
+  read = ours Four .read;
+  write = λ ts ws h out. let r = writeOut ts ws h out in record { answer = cond (eqb (r .answer) OUTPUT) DONE (r .answer); count = r .count; work = r .work; output = r .output };
+  check = ours Four .check;
+  rest = ours Four .rest;
+}
 
 -- ours with another text of a list
 abbrev writing : (Lst → List ℕ) → Engine

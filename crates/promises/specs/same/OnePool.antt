@@ -70,7 +70,7 @@ only-once {x} {y} {p} {q} {r} a b c = go (ℕ-discrete c x)
     go (yes e) = subst (λ (d : ℕ). at (q .cells) d ≡ at (r .cells) d) (sym e) (a .here ∙ sym (b .here))
     go (no n) = a .rest c n ∙ sym (b .rest c n)
 
-lent-once : {xs : List ℕ} {cs ds es : List Cell} → Lent xs cs ds → Lent xs cs es → ds ≡ es
+pub lent-once : {xs : List ℕ} {cs ds es : List Cell} → Lent xs cs ds → Lent xs cs es → ds ≡ es
 lent-once {xs} {cs} {ds} {es} a b = same-cells ds es (a .size ∙ sym (b .size)) (λ c n. a .counts c n ∙ sym (b .counts c n))
 
 -- what every operation keeps
