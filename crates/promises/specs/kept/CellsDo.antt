@@ -54,18 +54,22 @@ use Rattle.promises.specs.laws.Invariant.{read-alike, read-stored}
 use Rattle.table.specs.declared.Form.{Form}
 
 -- what holds of the effect of an operation that is allowed holds of the tables
-pub makes : (form : Form) → (R : Operation → Pool → Pool → Type 0) → ((p : Pool) (o : Operation) → Sound p → Allowed p o → R o p (effect p o .pool)) → Makes form (ours form) R
+pub makes : (form : Form) → (R : Operation → Pool → Pool → Type 0) → ((p : Pool) (o : Operation) → Sound p → Allowed p o → R o p (effect p o .pool))
+    → Makes form (ours form) R
 makes form R f ts ws rs o e =
     let w = one-accepted form ts ws rs o e in
-    subst (λ (q : Pool). R o (shown form ts) q) (sym (ap (shown form) (w .table) ∙ effect-stored form ts o (w .good) (w .allows) .shows)) (f (shown form ts) o (w .good .sound) (allowed (shown form ts) o (w .allows)))
+    subst (λ (q : Pool). R o (shown form ts) q) (sym (ap (shown form) (w .table) ∙ effect-stored form ts o (w .good) (w .allows) .shows))
+    (f (shown form ts) o (w .good .sound) (allowed (shown form ts) o (w .allows)))
 
 -- the same of one operation
 abbrev op : ℕ → Operation → Operation
 op c o = record { code = c; a = o .a; b = o .b; v = o .v }
 
-by-op : (form : Form) → (c : ℕ) (R : Operation → Pool → Pool → Type 0) → ((p : Pool) (o : Operation) → Sound p → Allowed p (op c o) → R (op c o) p (effect p (op c o) .pool))
+by-op : (form : Form) → (c : ℕ) (R : Operation → Pool → Pool → Type 0)
+    → ((p : Pool) (o : Operation) → Sound p → Allowed p (op c o) → R (op c o) p (effect p (op c o) .pool))
     → Makes form (ours form) (λ o p q. o .code ≡ c → R o p q)
-by-op form c R f = makes form (λ o p q. o .code ≡ c → R o p q) (λ p o s h e. subst (λ (k : ℕ). R (op k o) p (effect p (op k o) .pool)) (sym e) (f p o s (subst (λ (k : ℕ). Allowed p (op k o)) e h)))
+by-op form c R f = makes form (λ o p q. o .code ≡ c → R o p q)
+    (λ p o s h e. subst (λ (k : ℕ). R (op k o) p (effect p (op k o) .pool)) (sym e) (f p o s (subst (λ (k : ℕ). Allowed p (op k o)) e h)))
 
 -- whatever the operation
 
@@ -96,17 +100,23 @@ module _ (p : Pool) (o : Operation) (i : ℕ) (na : i ≢ o .a) (nb : UsesB (o .
 
   holder-same : Stays (effect p o .pool)
   unfolding pfa pfl decap adv borrow erase inv cinv conc
-  holder-same = by-code Stays p o (λ e. at-a _) (λ e. at-both _ _ (b-apart PFL refl e)) (λ e. at-both _ _ (b-apart DECAP refl e)) (λ e. at-both _ _ (b-apart ADV refl e)) (λ e. at-b _ (b-apart BORROW refl e))
+  holder-same = by-code Stays p o (λ e. at-a _) (λ e. at-both _ _ (b-apart PFL refl e)) (λ e. at-both _ _ (b-apart DECAP refl e))
+      (λ e. at-both _ _ (b-apart ADV refl e)) (λ e. at-b _ (b-apart BORROW refl e))
       (λ e. at-a _) (λ e. at-a _) (λ e. at-b _ (b-apart CINV refl e)) (λ e. in-conc _ _ (b-apart CONC refl e)) refl
 
 pub holders-stay : (form : Form) → HoldersStay form (ours form)
-holders-stay form = makes form (λ o p q. (i : ℕ) → i ≢ o .a → (UsesB (o .code) → i ≢ o .b) → holder q i ≡ holder p i) (λ p o s h i na nb. holder-same p o i na nb)
+holders-stay form = makes form (λ o p q. (i : ℕ) → i ≢ o .a → (UsesB (o .code) → i ≢ o .b) → holder q i ≡ holder p i)
+    (λ p o s h i na nb. holder-same p o i na nb)
 
 -- PFA and PFL
 
 -- one cell replaced
 only : (p q : Pool) (x : ℕ) (y : Cell) → InPool (p .cells) x → q .cells ≡ put (p .cells) x y → Only x y p q
-only p q x y k e = record { here = ap (λ (cs : List Cell). at cs x) e ∙ put-same (p .cells) x y (k .0) (k .1); rest = λ c n. ap (λ (cs : List Cell). at cs c) e ∙ put-other (p .cells) x c y n }
+only p q x y k e = record {
+  here = ap (λ (cs : List Cell). at cs x) e
+      ∙ put-same (p .cells) x y (k .0) (k .1);
+  rest = λ c n. ap (λ (cs : List Cell). at cs c) e ∙ put-other (p .cells) x c y n;
+}
 
 head-inside : (p : Pool) → Sound p → p .free ≢ 0 → InPool (p .cells) (p .free)
 head-inside p s n = free-zero p s (p .free) (s .chain .0, s .chain .1, chain-has (p .cells) (p .free) (s .chain .0) n (s .chain .1)) .0
@@ -115,18 +125,27 @@ pfa-prefixes : (p : Pool) (o : Operation) → Sound p → Allowed p (op PFA o) �
 unfolding effect pfa
 pfa-prefixes p o s h =
     let k = head-inside p s (some-free p s (ltb-false (frees (p .cells)) 1 (h .room))) in
-    record { head = getD-set-same (p .holders) (o .a) (p .free) 0 (a-holder p (op PFA o) (h .opened)); free = refl; cells = only p (pfa p (o .a) (o .v)) (p .free) _ k refl }
+    record {
+      head = getD-set-same (p .holders) (o .a) (p .free) 0 (a-holder p (op PFA o) (h .opened));
+      free = refl;
+      cells = only p (pfa p (o .a) (o .v))
+          (p .free) _ k refl;
+    }
 
 pub prefix-takes : (form : Form) → PrefixTakesHead form (ours form)
 prefix-takes form = by-op form PFA (λ o p q. Prefixed 0 (o .v) (o .a) p q) pfa-prefixes
 
-pfl-prefixes : (p : Pool) (o : Operation) → Sound p → Allowed p (op PFL o) → let q = effect p (op PFL o) .pool in Prefixed 1 (holder p (o .b)) (o .a) p q × (holder q (o .b) ≡ 0)
+pfl-prefixes : (p : Pool) (o : Operation) → Sound p → Allowed p (op PFL o) → let q = effect p (op PFL o) .pool in Prefixed 1 (holder p (o .b)) (o .a) p q
+    × (holder q (o .b) ≡ 0)
 unfolding effect pfl
 pfl-prefixes p o s h =
     let k = head-inside p s (some-free p s (ltb-false (frees (p .cells)) 1 (h .room))) in
     let la = a-holder p (op PFL o) (h .opened) in
-    let (lb, ab) = b-holder p (op PFL o) (h .opened) refl in
-    (record { head = both-a (p .holders) (o .a) (o .b) (p .free) 0 la lb ab; free = refl; cells = only p (pfl p (o .a) (o .b)) (p .free) _ k refl }, both-b (p .holders) (o .a) (o .b) (p .free) 0 la lb ab)
+    let (lb, ab) = b-holder p (op PFL o) (h .opened) refl in (
+      record { head = both-a (p .holders) (o .a) (o .b) (p .free) 0 la lb ab; free = refl; cells = only p (pfl p (o .a) (o .b)) (p .free) _ k refl },
+      both-b
+          (p .holders) (o .a) (o .b) (p .free) 0 la lb ab,
+    )
 
 pub prefix-list-takes : (form : Form) → PrefixListTakesHead form (ours form)
 prefix-list-takes form = by-op form PFL (λ o p q. Prefixed 1 (holder p (o .b)) (o .a) p q × (holder q (o .b) ≡ 0)) pfl-prefixes
@@ -167,7 +186,8 @@ lent-both cs x y z ox oy e = record {
   size = share-length (share cs x) y ∙ share-length cs x;
   counts = λ c n.
       let sum : countOf cs c + same x c + same y c ≡ countOf cs c + occ (z ∷ y ∷ []) c = omega (arith, ap (λ (d : ℕ). same d c) e) in
-      share-counts (share cs x) y c (share-live cs x y ox oy) n ∙ ap (λ (w : Cell). counted w (w .count + same y c)) (share-counts cs x c ox n) ∙ ap (counted (at cs c)) sum;
+      share-counts (share cs x) y c (share-live cs x y ox oy) n ∙ ap (λ (w : Cell). counted w (w .count + same y c)) (share-counts cs x c ox n)
+      ∙ ap (counted (at cs c)) sum;
 }
 
 adv-advances : (p : Pool) (o : Operation) → Sound p → Allowed p (op ADV o) → Advanced (o .a) (o .b) p (effect p (op ADV o) .pool)
@@ -205,18 +225,27 @@ borrow-lends p o s h =
       kept = getD-set-other (p .holders) (o .b) (o .a) x 0 ab;
       shared = getD-set-same (p .holders) (o .b) x 0 lb;
       free = refl;
-      cells = record { size = share-length (p .cells) x; counts = λ c n. let sum : countOf (p .cells) c + same x c ≡ countOf (p .cells) c + occ (x ∷ []) c = omega arith in share-counts (p .cells) x c (s .holds (o .a)) n ∙ ap (counted (at (p .cells) c)) sum };
+      cells = record {
+        size = share-length (p .cells) x;
+        counts = λ c n. let sum : countOf (p .cells) c + same x c ≡ countOf (p .cells) c + occ
+            (x ∷ []) c = omega arith in share-counts (p .cells) x c (s .holds (o .a)) n ∙ ap (counted (at (p .cells) c)) sum;
+      };
     }
 
 pub borrow-shares : (form : Form) → BorrowShares form (ours form)
 borrow-shares form = by-op form BORROW (λ o p q. Borrowed (o .a) (o .b) p q) borrow-lends
 
-erase-frees : (p : Pool) (a : ℕ) → Sound p → a < length (p .holders) → let (q, n) = erase p a in (holder q a ≡ 0) × Erased (q .free) (q .cells) (p .free) (p .cells) (holder p a) [] n
+erase-frees : (p : Pool) (a : ℕ) → Sound p → a < length (p .holders) → let (q, n) = erase p a in (holder q a ≡ 0)
+    × Erased (q .free) (q .cells) (p .free) (p .cells) (holder p a) [] n
 unfolding erase
 erase-frees p a s la =
     let x = holder p a in
-    let r : ℕ → ℕ = occ (set (p .holders) a 0) in
-    (getD-set-same (p .holders) a 0 0 la, dropped-erased r (p .free) (p .cells) x (reroot (p .free) (p .cells) (occ (p .holders)) none-aside (λ d. same x d + r d) none-aside (sound-held p s) (λ d n. omega (arith, occ-take (p .holders) a d la n)) (λ d. refl)))
+    let r : ℕ → ℕ = occ (set (p .holders) a 0) in (
+      getD-set-same (p .holders) a 0 0 la,
+      dropped-erased r (p .free) (p .cells) x
+          (reroot (p .free) (p .cells) (occ (p .holders)) none-aside (λ d. same x d + r d) none-aside (sound-held p s)
+          (λ d n. omega (arith, occ-take (p .holders) a d la n)) (λ d. refl)),
+    )
 
 effect-erase : (p : Pool) (o : Operation) → o .code ≡ ERASE → effect p o ≡ record { pool = erase p (o .a) .0; kind = 2; value = erase p (o .a) .1 }
 unfolding effect
@@ -230,18 +259,25 @@ erase-erases form ts ws rs o e c =
     let q = ap (shown form) (w .table) ∙ effect-stored form ts o (w .good) (w .allows) .shows ∙ ap (λ (z : Effect). z .pool) d in
     let (null, gone) = erase-frees p (o .a) (w .good .sound) (a-holder p o (allowed p o (w .allows) .opened)) in (
       ap (λ (z : Pool). holder z (o .a)) q ∙ null,
-      (erase p (o .a) .1, subst (λ (z : Pool). Erased (z .free) (z .cells) (p .free) (p .cells) (holder p (o .a)) [] (erase p (o .a) .1)) (sym q) gone, w .results ∙ ap (λ (z : Effect). over (z .kind ∷ z .value ∷ []) rs) d),
+      (
+        erase p (o .a) .1,
+        subst (λ (z : Pool). Erased (z .free) (z .cells) (p .free) (p .cells) (holder p (o .a)) [] (erase p (o .a) .1))
+            (sym q) gone,
+        w .results ∙ ap (λ (z : Effect). over (z .kind ∷ z .value ∷ []) rs) d,
+      ),
     )
 
 -- INV
 
-level-live : (p : Pool) (a : ℕ) (s : Sound p) (xs : List ℕ) → Chain (p .cells) (holder p a) xs → AllLive (p .cells) xs × (length xs ≤ length (p .cells)) × (length xs ≡ lengthOf p a)
+level-live : (p : Pool) (a : ℕ) (s : Sound p) (xs : List ℕ) → Chain (p .cells) (holder p a) xs → AllLive (p .cells) xs × (length xs ≤ length (p .cells))
+    × (length xs ≡ lengthOf p a)
 level-live p a s xs h =
     let (l, w) = denoted p s a in
     let (e, v) = level-of (p .cells) l (holder p a) xs w h in
     (v, omega (arith, len-le (p .free) (p .cells) (occ (p .holders)) none-aside (sound-held p s) l (holder p a) w), e ∙ sym (length-is p a l s w))
 
-inv-turns : (p : Pool) (o : Operation) → Sound p → Allowed p (op INV o) → (xs : List ℕ) → Chain (p .cells) (holder p (o .a)) xs → Turned xs (o .a) p (effect p (op INV o) .pool)
+inv-turns : (p : Pool) (o : Operation) → Sound p → Allowed p (op INV o) → (xs : List ℕ) → Chain (p .cells) (holder p (o .a)) xs
+    → Turned xs (o .a) p (effect p (op INV o) .pool)
 unfolding effect inv
 inv-turns p o s h xs c =
     let (v, l, _) = level-live p (o .a) s xs c in
@@ -263,10 +299,12 @@ live-items p s (x ∷ xs) v c n o = go (same? (item (p .cells) x) c) (live-items
     item-live d m (inr l) = l
 
     go : Same (item (p .cells) x) c → (0 < occ (map (item (p .cells)) xs) c → Live (p .cells) c) → Live (p .cells) c
-    go (eq e z) r = let l = live-first (p .cells) x xs v in item-live c n (subst (NullOrLive (p .cells)) e (null-or-item (p .cells) x (sound-held p s .kinds x l) (λ k. s .elems x l k)))
+    go (eq e z) r = let l = live-first (p .cells) x xs v in item-live c n
+        (subst (NullOrLive (p .cells)) e (null-or-item (p .cells) x (sound-held p s .kinds x l) (λ k. s .elems x l k)))
     go (ne m z) r = r (omega arith)
 
-cinv-copies : (p : Pool) (o : Operation) → Sound p → Allowed p (op CINV o) → (xs fs : List ℕ) → Chain (p .cells) (holder p (o .a)) xs → Chain (p .cells) (p .free) fs → Copied xs fs (o .a) (o .b) p (effect p (op CINV o) .pool)
+cinv-copies : (p : Pool) (o : Operation) → Sound p → Allowed p (op CINV o) → (xs fs : List ℕ) → Chain (p .cells) (holder p (o .a)) xs
+    → Chain (p .cells) (p .free) fs → Copied xs fs (o .a) (o .b) p (effect p (op CINV o) .pool)
 unfolding effect cinv
 cinv-copies p o s h xs fs cx cf =
     let (v, l, m) = level-live p (o .a) s xs cx in
@@ -283,12 +321,14 @@ cinv-copies p o s h xs fs cx cf =
     }
 
 pub cinv-copies-cells : (form : Form) → CinvCopies form (ours form)
-cinv-copies-cells form = by-op form CINV (λ o p q. (xs fs : List ℕ) → Chain (p .cells) (holder p (o .a)) xs → Chain (p .cells) (p .free) fs → Copied xs fs (o .a) (o .b) p q) cinv-copies
+cinv-copies-cells form = by-op form CINV
+    (λ o p q. (xs fs : List ℕ) → Chain (p .cells) (holder p (o .a)) xs → Chain (p .cells) (p .free) fs → Copied xs fs (o .a) (o .b) p q) cinv-copies
 
 -- CONC
 
 module _ (p : Pool) (a b : ℕ) (la : a < length (p .holders)) (lb : b < length (p .holders)) (ab : a ≢ b) (xs : List ℕ) (v : AllLive (p .cells) xs) where
-  joins : (x y : ℕ) → holder p a ≡ x → holder p b ≡ y → (x ≢ 0 → (lastOf (length (p .cells)) (p .cells) x ≡ endOf xs) × (0 < length xs)) → Joined xs a b p (concAt p a b x y)
+  joins : (x y : ℕ) → holder p a ≡ x → holder p b ≡ y → (x ≢ 0 → (lastOf (length (p .cells)) (p .cells) x ≡ endOf xs) × (0 < length xs))
+      → Joined xs a b p (concAt p a b x y)
   unfolding concAt
   joins x zero e f r = record { free = refl; null = f; nothing = λ z. (refl, λ c. refl); given = λ n. absurd (n f); joined = λ n. absurd (n f) }
   joins zero (suc j) e f r = record {
@@ -312,7 +352,8 @@ module _ (p : Pool) (a b : ℕ) (la : a < length (p .holders)) (lb : b < length 
         joined = λ n m. (both-a (p .holders) a b (suc i) 0 la lb ab ∙ sym e, only p q (endOf xs) _ k cells);
       }
 
-conc-joins : (p : Pool) (o : Operation) → Sound p → Allowed p (op CONC o) → (xs : List ℕ) → Chain (p .cells) (holder p (o .a)) xs → Joined xs (o .a) (o .b) p (effect p (op CONC o) .pool)
+conc-joins : (p : Pool) (o : Operation) → Sound p → Allowed p (op CONC o) → (xs : List ℕ) → Chain (p .cells) (holder p (o .a)) xs
+    → Joined xs (o .a) (o .b) p (effect p (op CONC o) .pool)
 unfolding effect conc tally
 conc-joins p o s h xs c =
     let (v, l, _) = level-live p (o .a) s xs c in
@@ -342,12 +383,14 @@ asking-leaves form ts ws rs o e c =
 
 -- reading
 
-read-in : (p : Pool) (h : ℕ) (l : Lst) → Sound p → h < length (p .holders) → extent l ≤ frees (p .cells) → (fs : List ℕ) → Chain (p .cells) (p .free) fs → ReadIn l fs h p (read p h l)
+read-in : (p : Pool) (h : ℕ) (l : Lst) → Sound p → h < length (p .holders) → extent l ≤ frees (p .cells) → (fs : List ℕ) → Chain (p .cells) (p .free) fs
+    → ReadIn l fs h p (read p h l)
 unfolding read
 read-in p h l s lh room fs c =
     let free = all-free p s fs c in
     let long : extent l ≤ length fs = omega (arith, free-length p s fs c) in
-    let r = load-cells (nth fs) (length fs) (length (p .cells)) (λ i j m n e. nth-apart fs i j (Chain-once (p .cells) (p .free) fs c) m n e) (λ j m. free (nth fs j) (nth-occ fs j m) .0)
+    let r = load-cells (nth fs) (length fs) (length (p .cells)) (λ i j m n e. nth-apart fs i j (Chain-once (p .cells) (p .free) fs c) m n e)
+    (λ j m. free (nth fs j) (nth-occ fs j m) .0)
     l 0 (p .free) (p .cells) (chain-first (p .cells) (p .free) fs c) (λ j _ m. chain-next (p .cells) (p .free) fs c j (omega arith)) (omega arith) refl in
     let zero-add : 0 + extent l ≡ extent l = omega arith in
     record {
@@ -356,16 +399,21 @@ read-in p h l s lh room fs c =
       others = λ i n. getD-set-other (p .holders) h i _ 0 n;
       free = r .free ∙ ap (nth fs) zero-add;
       laid = r .laid;
-      rest = λ d o. r .rest d (λ j _ m e. nth-other (take (extent l) fs) j d (omega (arith, length-take-le (extent l) fs long)) o (getD-take (extent l) fs j 0 (omega arith) ∙ sym e));
+      rest = λ d o. r .rest d
+          (λ j _ m e. nth-other (take (extent l) fs) j d (omega (arith, length-take-le (extent l) fs long)) o
+          (getD-take (extent l) fs j 0 (omega arith) ∙ sym e));
     }
 
 pub reading-uses : (form : Form) → ReadingUsesItsCells form (ours form)
 reading-uses form ts ws h xs =
-    read-ways form ts ws h xs (λ (r : Reading). r .answer ≡ DONE → (l : Lst) (fs : List ℕ) → Spells xs (r .count) l → Chain (shown form ts .cells) (shown form ts .free) fs → ReadIn l fs h (shown form ts) (shown form (r .table)))
+    read-ways form ts ws h xs
+    (λ (r : Reading). r .answer ≡ DONE → (l : Lst) (fs : List ℕ) → Spells xs (r .count) l → Chain (shown form ts .cells) (shown form ts .free) fs
+    → ReadIn l fs h (shown form ts) (shown form (r .table)))
     (λ n us d e. absurd (d e))
     (λ t _ l fs w c.
     let g = entered-good form ts ws h xs (t .entered) in
     let below = leb-false (holdersTold form ts) h (t .entered .held) in
     let same-list : listIn xs ≡ l = spells-once xs _ _ (listIn xs) l (spells-ours xs (t .right)) w .1 in
     subst (λ (q : Pool). ReadIn l fs h (shown form ts) q) (sym (read-stored form t .shows))
-    (subst (λ (k : Lst). ReadIn k fs h (shown form ts) (read (shown form ts) h (listIn xs))) same-list (read-in (shown form ts) h (listIn xs) (g .sound) (omega (arith, g .table .held)) (t .room) fs c)))
+    (subst (λ (k : Lst). ReadIn k fs h (shown form ts) (read (shown form ts) h (listIn xs))) same-list
+    (read-in (shown form ts) h (listIn xs) (g .sound) (omega (arith, g .table .held)) (t .room) fs c)))

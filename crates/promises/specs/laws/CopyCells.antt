@@ -33,7 +33,8 @@ share-counts cs (suc i) c (inr l) n = go (same? (suc i) c)
     go (eq e z) =
         let k = live-cell cs (suc i) l in
         let up : suc (countOf cs (suc i)) ≡ countOf cs (suc i) + same (suc i) c = omega (arith, z) in
-        subst (λ (d : ℕ). at (put cs (suc i) y) d ≡ counted (at cs d) (countOf cs d + same (suc i) c)) e (put-same cs (suc i) y (k .0) (k .1) ∙ ap (counted (at cs (suc i))) up)
+        subst (λ (d : ℕ). at (put cs (suc i) y) d ≡ counted (at cs d) (countOf cs d + same (suc i) c)) e
+        (put-same cs (suc i) y (k .0) (k .1) ∙ ap (counted (at cs (suc i))) up)
     go (ne m z) = put-other cs (suc i) c y (λ e. m (sym e)) ∙ ap (counted (at cs c)) (omega (arith, z))
 
 -- changes no more than its count
@@ -67,11 +68,13 @@ LiveItems cs xs = (c : ℕ) → c ≢ 0 → 0 < occ (map (item cs) xs) c → Liv
 pub record CopiedTo (xs fs : List ℕ) (y : ℕ) (cs : List Cell) (z : Made) : Type 0 where
   pub free : z .free ≡ nth fs (length xs)
   pub head : z .head ≡ getD (y ∷ fs) (length xs) 0
-  pub copied : (i : ℕ) → i < length xs → at (z .cells) (nth fs i) ≡ record { kind = kindOf cs (nth xs i); elem = elemOf cs (nth xs i); count = 1; next = getD (y ∷ fs) i 0 }
+  pub copied : (i : ℕ) → i < length xs
+      → at (z .cells) (nth fs i) ≡ record { kind = kindOf cs (nth xs i); elem = elemOf cs (nth xs i); count = 1; next = getD (y ∷ fs) i 0 }
   pub rest : (c : ℕ) → c ≢ 0 → occ (take (length xs) fs) c ≡ 0 → at (z .cells) c ≡ counted (at cs c) (countOf cs c + occ (map (item cs) xs) c)
 
 -- one cell of the copy: the first of the main level u in the first free cell g
-module _ (cs : List Cell) (u g y : ℕ) (xs fs : List ℕ) (cu : Chain cs u (u ∷ xs)) (cg : Chain cs g (g ∷ fs)) (lv : AllLive cs (u ∷ xs)) (it : LiveItems cs (u ∷ xs)) (fr : AllFree cs (g ∷ fs)) where
+module _ (cs : List Cell) (u g y : ℕ) (xs fs : List ℕ) (cu : Chain cs u (u ∷ xs)) (cg : Chain cs g (g ∷ fs)) (lv : AllLive cs (u ∷ xs))
+    (it : LiveItems cs (u ∷ xs)) (fr : AllFree cs (g ∷ fs)) where
   abbrev e₀ : ℕ
   e₀ = item cs u
 
@@ -137,7 +140,8 @@ module _ (cs : List Cell) (u g y : ℕ) (xs fs : List ℕ) (cu : Chain cs u (u �
 
   chain-free : Chain ds (nextOf sh g) fs
   unfolding Chain
-  chain-free = chain-put sh g (twin cs u y) (nextOf sh g) fs (first-once cs g g fs cg) (chain-same cs sh next-same (nextOf sh g) fs (subst (λ (c : ℕ). Chain cs c fs) (sym (next-same g)) (cg .2)))
+  chain-free = chain-put sh g (twin cs u y) (nextOf sh g) fs (first-once cs g g fs cg)
+      (chain-same cs sh next-same (nextOf sh g) fs (subst (λ (c : ℕ). Chain cs c fs) (sym (next-same g)) (cg .2)))
 
   items-on : LiveItems ds xs
   unfolding tally
@@ -148,8 +152,11 @@ module _ (cs : List Cell) (u g y : ℕ) (xs fs : List ℕ) (cu : Chain cs u (u �
   free-on c o =
       let (i, z) = fr c (omega arith) in
       let n : c ≢ g = λ e. omega (arith, ap (occ fs) e, first-once cs g g fs cg) in
-      let m : e₀ ≢ c = λ e. not-item e in
-      ((i .0, omega (arith, put-length sh g (twin cs u y), share-length cs e₀, i .1)), ap (λ (w : Cell). w .count) (other c (λ e. omega (arith, i .0)) n) ∙ omega (arith, z, same-ne e₀ c m))
+      let m : e₀ ≢ c = λ e. not-item e in (
+        (i .0, omega (arith, put-length sh g (twin cs u y), share-length cs e₀, i .1)),
+        ap (λ (w : Cell). w .count) (other c (λ e. omega (arith, i .0)) n)
+            ∙ omega (arith, z, same-ne e₀ c m),
+      )
     where
       not-item : e₀ ≡ c → ⊥
       not-item e = go ok
@@ -166,22 +173,33 @@ module _ (cs : List Cell) (u g y : ℕ) (xs fs : List ℕ) (cu : Chain cs u (u �
       twinned = put-same sh g (twin cs u y) (inside .0 .0) (omega (arith, share-length cs e₀, inside .0 .1))
 
       at-place : (i : ℕ) → i < suc (length xs)
-          → at (z .cells) (nth (g ∷ fs) i) ≡ record { kind = kindOf cs (nth (u ∷ xs) i); elem = elemOf cs (nth (u ∷ xs) i); count = 1; next = getD (y ∷ g ∷ fs) i 0 }
+          → at (z .cells) (nth (g ∷ fs) i) ≡ record {
+            kind = kindOf cs (nth (u ∷ xs) i);
+            elem = elemOf cs (nth (u ∷ xs) i);
+            count = 1;
+            next = getD
+                (y ∷ g ∷ fs) i 0;
+          }
       at-place zero l =
-          let one : countOf ds g + occ (map (item ds) xs) g ≡ 1 = omega (arith, ap (λ (w : Cell). w .count) twinned, none-here, ap (λ (es : List ℕ). occ es g) items-same) in
-          r .rest g (λ e. omega (arith, inside .0)) (omega (arith, take-less (length xs) fs g, first-once cs g g fs cg)) ∙ ap (counted (at ds g)) one ∙ ap (λ (w : Cell). counted w 1) twinned
+          let one : countOf ds g + occ (map (item ds) xs) g ≡ 1
+          = omega (arith, ap (λ (w : Cell). w .count) twinned, none-here, ap (λ (es : List ℕ). occ es g) items-same) in
+          r .rest g (λ e. omega (arith, inside .0)) (omega (arith, take-less (length xs) fs g, first-once cs g g fs cg)) ∙ ap (counted (at ds g)) one
+          ∙ ap (λ (w : Cell). counted w 1) twinned
       at-place (suc i) l =
           let s = stays (nth xs i) (later (nth xs i) (nth-occ xs i (omega arith))) in
           r .copied i (omega arith) ∙ cell-path (s .0) (s .1) refl refl
 
-      elsewhere : (c : ℕ) → c ≢ 0 → occ (take (suc (length xs)) (g ∷ fs)) c ≡ 0 → at (z .cells) c ≡ counted (at cs c) (countOf cs c + occ (map (item cs) (u ∷ xs)) c)
+      elsewhere : (c : ℕ) → c ≢ 0 → occ (take (suc (length xs)) (g ∷ fs)) c ≡ 0
+          → at (z .cells) c ≡ counted (at cs c) (countOf cs c + occ (map (item cs) (u ∷ xs)) c)
       elsewhere c n o =
           let m : c ≢ g = λ e. omega (arith, same-of g c (sym e)) in
           let w = other c n m in
-          let sum : countOf ds c + occ (map (item ds) xs) c ≡ countOf cs c + (same e₀ c + occ (map (item cs) xs) c) = omega (arith, ap (λ (v : Cell). v .count) w, ap (λ (es : List ℕ). occ es c) items-same) in
+          let sum : countOf ds c + occ (map (item ds) xs) c ≡ countOf cs c + (same e₀ c + occ (map (item cs) xs) c)
+          = omega (arith, ap (λ (v : Cell). v .count) w, ap (λ (es : List ℕ). occ es c) items-same) in
           r .rest c n (omega arith) ∙ ap (counted (at ds c)) sum ∙ ap (λ (v : Cell). counted v (countOf cs c + (same e₀ c + occ (map (item cs) xs) c))) w
 
-pub copy-cells : (xs fs : List ℕ) (k f : ℕ) (cs : List Cell) (x y : ℕ) → Chain cs x xs → Chain cs f fs → AllLive cs xs → LiveItems cs xs → AllFree cs fs → length xs ≤ length fs → length xs ≤ k
+pub copy-cells : (xs fs : List ℕ) (k f : ℕ) (cs : List Cell) (x y : ℕ) → Chain cs x xs → Chain cs f fs → AllLive cs xs → LiveItems cs xs → AllFree cs fs
+    → length xs ≤ length fs → length xs ≤ k
     → CopiedTo xs fs y cs (copy k f cs x y)
 unfolding Chain tally
 copy-cells [] fs k f cs x y cx cf lv it fr l m = subst (CopiedTo [] fs y cs) (sym (copy-end k f cs x y cx)) (record {
@@ -195,7 +213,10 @@ copy-cells (u ∷ xs) (g ∷ fs) zero f cs x y cx cf lv it fr l m = absurd (omeg
 copy-cells (u ∷ xs) (g ∷ fs) (suc k) f cs x y cx cf lv it fr l m =
     let cu : Chain cs u (u ∷ xs) = (refl, cx .1, cx .2) in
     let cg : Chain cs g (g ∷ fs) = (refl, cf .1, cf .2) in
-    let r = copy-cells xs fs k (nextOf (share cs (item cs u)) g) (withTwin g cs u y) (nextOf cs u) g (chain-level cs u g y xs fs cu cg lv it fr) (chain-free cs u g y xs fs cu cg lv it fr)
-    (λ c o. live-on cs u g y xs fs cu cg lv it fr c (live-later cs u xs lv c o)) (items-on cs u g y xs fs cu cg lv it fr) (free-on cs u g y xs fs cu cg lv it fr) (omega arith) (omega arith) in
-    subst (CopiedTo (u ∷ xs) (g ∷ fs) y cs) (sym (ap (λ (c : ℕ). copy (suc k) f cs c y) (cx .0) ∙ ap (λ (c : ℕ). copy (suc k) c cs u y) (cf .0) ∙ copy-next k g cs u y (cx .1)))
+    let r = copy-cells xs fs k (nextOf (share cs (item cs u)) g) (withTwin g cs u y) (nextOf cs u) g (chain-level cs u g y xs fs cu cg lv it fr)
+    (chain-free cs u g y xs fs cu cg lv it fr)
+    (λ c o. live-on cs u g y xs fs cu cg lv it fr c (live-later cs u xs lv c o)) (items-on cs u g y xs fs cu cg lv it fr)
+    (free-on cs u g y xs fs cu cg lv it fr) (omega arith) (omega arith) in
+    subst (CopiedTo (u ∷ xs) (g ∷ fs) y cs)
+    (sym (ap (λ (c : ℕ). copy (suc k) f cs c y) (cx .0) ∙ ap (λ (c : ℕ). copy (suc k) c cs u y) (cf .0) ∙ copy-next k g cs u y (cx .1)))
     (joined cs u g y xs fs cu cg lv it fr _ r)

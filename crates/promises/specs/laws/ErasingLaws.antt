@@ -75,8 +75,12 @@ pub chain-put : (cs : List Cell) (x : ℕ) (y : Cell) (c : ℕ) (fs : List ℕ) 
 unfolding Chain tally
 chain-put cs x y c [] o h = h
 chain-put cs x y c (f ∷ fs) o h =
-    let n : f ≢ x = λ e. omega (arith, same-of f x e) in
-    (h .0, h .1, subst (λ (d : ℕ). Chain (put cs x y) d fs) (ap (λ (z : Cell). z .next) (sym (put-other cs x f y n))) (chain-put cs x y (nextOf cs f) fs (omega arith) (h .2)))
+    let n : f ≢ x = λ e. omega (arith, same-of f x e) in (
+      h .0,
+      h .1,
+      subst (λ (d : ℕ). Chain (put cs x y) d fs) (ap (λ (z : Cell). z .next) (sym (put-other cs x f y n)))
+          (chain-put cs x y (nextOf cs f) fs (omega arith) (h .2)),
+    )
 
 chain-on : (es : List Cell) (c d : ℕ) (us : List ℕ) → c ≢ 0 → nextOf es c ≡ d → Chain es d us → Chain es c (c ∷ us)
 unfolding Chain
@@ -111,20 +115,37 @@ module _ (r : ℕ → ℕ) (bs : List Cell) (g : ℕ) (ds : List Cell) where
     unfolding visit
     by-visit (suc k) t us l q h w (m, z, d) =
         let same-ws = Chain-unique _ b (cellsOf us) (cellsOf ws) (waiting-chain _ b us (w .chained)) (stays _ l) in
-        let less : suc k ≡ countOf cs x - 1 = omega arith in
-        (m, z, shared {cs = cs} {x = x} (omega arith) (subst (λ (vs : List ℕ). Erased g ds f (setCount cs x (countOf cs x - 1)) 0 vs m) same-ws (subst (λ (j : ℕ). Erased g ds f (setCount cs x j) 0 (cellsOf us) m) less d)))
+        let less : suc k ≡ countOf cs x - 1 = omega arith in (
+          m,
+          z,
+          shared {cs = cs} {x = x} (omega arith)
+              (subst (λ (vs : List ℕ). Erased g ds f (setCount cs x (countOf cs x - 1)) 0 vs m) same-ws
+              (subst (λ (j : ℕ). Erased g ds f (setCount cs x j) 0 (cellsOf us) m) less d)),
+        )
     by-visit zero zero us l q h w (m, z, d) =
         let same-cells = two-stores cs x f (live-cell cs x l) in
-        let same-ws = Chain-unique _ b (cellsOf us) (cellsOf ws) (subst (λ (es : List Cell). Chain es b (cellsOf us)) same-cells (waiting-chain _ b us (w .chained))) (stays _ l) in
-        (suc m, omega arith, atom q h (subst (λ (vs : List ℕ). Erased g ds x (atHead cs x f) (nextOf cs x) vs m) same-ws (subst (λ (es : List Cell). Erased g ds x es (nextOf cs x) (cellsOf us) m) same-cells d)))
+        let same-ws = Chain-unique _ b (cellsOf us) (cellsOf ws)
+        (subst (λ (es : List Cell). Chain es b (cellsOf us)) same-cells (waiting-chain _ b us (w .chained))) (stays _ l) in (
+          suc m,
+          omega arith,
+          atom q h
+              (subst (λ (vs : List ℕ). Erased g ds x (atHead cs x f) (nextOf cs x) vs m) same-ws
+              (subst (λ (es : List Cell). Erased g ds x es (nextOf cs x) (cellsOf us) m) same-cells d)),
+        )
     by-visit zero (suc zero) us l q h w (m, z, d) =
         let inside = live-cell cs x l in
         let y : Cell = record { kind = kindOf cs x; elem = elemOf cs x; count = 0; next = b } in
         let first = waiting-first cs b ws (v .chained) in
         let same-cells : setNext (setCount cs x 0) x b ≡ atHead cs x (firstOf (cellsOf ws)) = two-stores cs x b inside ∙ ap (atHead cs x) (sym first) in
-        let onto : Chain (atHead cs x b) x (x ∷ cellsOf ws) = chain-on (atHead cs x b) x b (cellsOf ws) (λ c. omega arith) (ap (λ (u : Cell). u .next) (put-same cs x y (inside .0) (inside .1))) (stays y l) in
-        let same-ws = Chain-unique (atHead cs x b) x (cellsOf us) (x ∷ cellsOf ws) (subst (λ (es : List Cell). Chain es x (cellsOf us)) (two-stores cs x b inside) (waiting-chain _ x us (w .chained))) onto in
-        (m, z, list q h (subst (λ (vs : List ℕ). Erased g ds f (atHead cs x (firstOf (cellsOf ws))) (nextOf cs x) vs m) same-ws (subst (λ (es : List Cell). Erased g ds f es (nextOf cs x) (cellsOf us) m) same-cells d)))
+        let onto : Chain (atHead cs x b) x (x ∷ cellsOf ws)
+        = chain-on (atHead cs x b) x b (cellsOf ws) (λ c. omega arith) (ap (λ (u : Cell). u .next) (put-same cs x y (inside .0) (inside .1))) (stays y l) in
+        let same-ws = Chain-unique (atHead cs x b) x (cellsOf us) (x ∷ cellsOf ws)
+        (subst (λ (es : List Cell). Chain es x (cellsOf us)) (two-stores cs x b inside) (waiting-chain _ x us (w .chained))) onto in (
+          m,
+          z,
+          list q h (subst (λ (vs : List ℕ). Erased g ds f (atHead cs x (firstOf (cellsOf ws))) (nextOf cs x) vs m) same-ws
+              (subst (λ (es : List Cell). Erased g ds f es (nextOf cs x) (cellsOf us) m) same-cells d)),
+        )
     by-visit zero (suc (suc t)) us l q h w rest = absurd (omega (arith, v .held .kinds x (omega arith)))
 
   -- the head of the waiting chain
@@ -134,16 +155,22 @@ module _ (r : ℕ → ℕ) (bs : List Cell) (g : ℕ) (ds : List Cell) where
   by-end f cs b n w ws us e v u (m, z, d) =
       let (at-b, some, item, rest) = v .chained in
       let free = aside-cell f cs (λ c. same 0 c + items (w ∷ ws) c + r c) (waits (w ∷ ws)) b (v .held) (omega (arith, same-of (w .cell) b (sym at-b))) .1 in
-      let once : occ (cellsOf ws) b ≡ 0 = omega (arith, Chain-once cs b (cellsOf (w ∷ ws)) (waiting-chain cs b (w ∷ ws) (v .chained)) b, same-of (w .cell) b (sym at-b)) in
-      let left : Chain (setNext cs b f) (nextOf cs b) (cellsOf ws) = chain-put cs b _ (nextOf cs b) (cellsOf ws) once (subst (λ (c : ℕ). Chain cs (nextOf cs c) (cellsOf ws)) (sym at-b) (waiting-chain cs (nextOf cs (w .cell)) ws rest)) in
+      let once : occ (cellsOf ws) b ≡ 0
+      = omega (arith, Chain-once cs b (cellsOf (w ∷ ws)) (waiting-chain cs b (w ∷ ws) (v .chained)) b, same-of (w .cell) b (sym at-b)) in
+      let left : Chain (setNext cs b f) (nextOf cs b) (cellsOf ws)
+      = chain-put cs b _ (nextOf cs b) (cellsOf ws) once
+      (subst (λ (c : ℕ). Chain cs (nextOf cs c) (cellsOf ws)) (sym at-b) (waiting-chain cs (nextOf cs (w .cell)) ws rest)) in
       let same-ws = Chain-unique (setNext cs b f) (nextOf cs b) (cellsOf us) (cellsOf ws) (waiting-chain _ (nextOf cs b) us u) left in
-      let d₁ : Erased g ds b (atHead cs b f) (elemOf cs b) (cellsOf ws) m = subst (λ (vs : List ℕ). Erased g ds b (atHead cs b f) (elemOf cs b) vs m) same-ws (subst (λ (es : List Cell). Erased g ds b es (elemOf cs b) (cellsOf us) m) (one-store cs b f free) d) in
+      let d₁ : Erased g ds b (atHead cs b f) (elemOf cs b) (cellsOf ws) m
+      = subst (λ (vs : List ℕ). Erased g ds b (atHead cs b f) (elemOf cs b) vs m) same-ws
+      (subst (λ (es : List Cell). Erased g ds b es (elemOf cs b) (cellsOf us) m) (one-store cs b f free) d) in
       (suc m, omega arith, waited (subst (λ (c : ℕ). Erased g ds c (atHead cs c f) (elemOf cs c) (cellsOf ws) m) at-b d₁))
 
   by-step : (f : ℕ) (cs : List Cell) (x b n : ℕ) (ws us : List Wait) (e : ℕ) → DropInv r bs f cs x b n ws → DropInvAt r bs (step f cs x b n) us
       → (let s = step f cs x b n in Rest (s .free) (s .cells) (s .here) (cellsOf us) (s .freed) e) → Rest f cs x (cellsOf ws) n e
   unfolding step Waits
-  by-step f cs zero zero n ws us e v w d = subst (λ (vs : List ℕ). Rest f cs 0 vs n e) (Chain-unique cs 0 (cellsOf us) (cellsOf ws) (waiting-chain cs 0 us (w .chained)) (waiting-chain cs 0 ws (v .chained))) d
+  by-step f cs zero zero n ws us e v w d = subst (λ (vs : List ℕ). Rest f cs 0 vs n e)
+      (Chain-unique cs 0 (cellsOf us) (cellsOf ws) (waiting-chain cs 0 us (w .chained)) (waiting-chain cs 0 ws (v .chained))) d
   by-step f cs zero (suc j) n [] us e v w d = absurd (omega (arith, v .chained))
   by-step f cs zero (suc j) n (u ∷ ws) us e v w d = by-end f cs (suc j) n u ws us e v (w .chained) d
   by-step f cs (suc i) b n ws us e v w d =
@@ -151,9 +178,14 @@ module _ (r : ℕ → ℕ) (bs : List Cell) (g : ℕ) (ds : List Cell) where
       by-visit f cs (suc i) b n ws v e (countOf cs (suc i) - 1) (kindOf cs (suc i)) us l (omega arith) refl w d
 
 -- a run that has come to its end
-at-end : (r : ℕ → ℕ) (bs : List Cell) (s : Dropping) (ws : List Wait) → s .here ≡ 0 → ws ≡ [] → Rest r bs (s .free) (s .cells) (s .free) (s .cells) (s .here) (cellsOf ws) (s .freed) (s .freed)
-at-end r bs s ws e q =
-    (0, omega arith, subst (λ (vs : List Wait). Erased (s .free) (s .cells) (s .free) (s .cells) (s .here) (cellsOf vs) 0) (sym q) (subst (λ (x : ℕ). Erased (s .free) (s .cells) (s .free) (s .cells) x [] 0) (sym e) ended))
+at-end : (r : ℕ → ℕ) (bs : List Cell) (s : Dropping) (ws : List Wait) → s .here ≡ 0 → ws ≡ []
+    → Rest r bs (s .free) (s .cells) (s .free) (s .cells) (s .here) (cellsOf ws) (s .freed) (s .freed)
+at-end r bs s ws e q = (
+  0,
+  omega arith,
+  subst (λ (vs : List Wait). Erased (s .free) (s .cells) (s .free) (s .cells) (s .here) (cellsOf vs) 0) (sym q)
+      (subst (λ (x : ℕ). Erased (s .free) (s .cells) (s .free) (s .cells) x [] 0) (sym e) ended),
+)
 
 -- where a run comes to that is long enough
 module _ (r : ℕ → ℕ) (bs : List Cell) where
@@ -174,14 +206,17 @@ module _ (r : ℕ → ℕ) (bs : List Cell) where
       go (inr (us, w, m)) = absurd (omega arith)
   run-erased (suc k) s ws v l = go (run-erased k (stepped s)) (step-inv r bs (s .free) (s .cells) (s .here) (s .waiting) (s .freed) ws v)
     where
-      go : ((us : List Wait) → DropInvAt r bs (stepped s) us → todo (stepped s) us ≤ k → Comes (stepped s) us (dropping k (stepped s))) → Ways s ws → Comes s ws (dropping (suc k) s)
+      go : ((us : List Wait) → DropInvAt r bs (stepped s) us → todo (stepped s) us ≤ k → Comes (stepped s) us (dropping k (stepped s))) → Ways s ws
+          → Comes s ws (dropping (suc k) s)
       go ih (inl (e, b, q)) = ended-at (suc k) s ws e b q
       go ih (inr (us, w, m)) =
           let e = dropping k (stepped s) in
-          subst (Comes s ws) (sym (dropping-step k s)) (by-step r bs (e .free) (e .cells) (s .free) (s .cells) (s .here) (s .waiting) (s .freed) ws us (e .freed) v w (ih us w (omega arith)))
+          subst (Comes s ws) (sym (dropping-step k s))
+          (by-step r bs (e .free) (e .cells) (s .free) (s .cells) (s .here) (s .waiting) (s .freed) ws us (e .freed) v w (ih us w (omega arith)))
 
 -- what is dropped is erased
-pub dropped-erased : (r : ℕ → ℕ) (f : ℕ) (cs : List Cell) (x : ℕ) → Held f cs (λ c. same x c + r c) (λ c. 0) → let s = dropped f cs x in Erased (s .free) (s .cells) f cs x [] (s .freed)
+pub dropped-erased : (r : ℕ → ℕ) (f : ℕ) (cs : List Cell) (x : ℕ) → Held f cs (λ c. same x c + r c) (λ c. 0)
+    → let s = dropped f cs x in Erased (s .free) (s .cells) f cs x [] (s .freed)
 unfolding dropped Waits tally
 dropped-erased r f cs x h =
     let start : Dropping = record { free = f; cells = cs; here = x; waiting = 0; freed = 0 } in

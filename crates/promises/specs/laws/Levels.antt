@@ -112,7 +112,8 @@ pub all-free : (p : Pool) → Sound p → (fs : List ℕ) → Chain (p .cells) (
 all-free p s fs h c o = free-zero p s c (fs, h, o)
 
 pub free-length : (p : Pool) → Sound p → (fs : List ℕ) → Chain (p .cells) (p .free) fs → length fs ≡ frees (p .cells)
-free-length p s fs h = omega (arith, sound-chain-length p s, frees-lives (p .cells), ap length (Chain-unique (p .cells) (p .free) fs (s .chain .0) h (s .chain .1)))
+free-length p s fs h = omega
+    (arith, sound-chain-length p s, frees-lives (p .cells), ap length (Chain-unique (p .cells) (p .free) fs (s .chain .0) h (s .chain .1)))
 
 -- INV: a chain is turned before y
 pub record Flipped (xs : List ℕ) (y : ℕ) (cs ds : List Cell) (z : ℕ) : Type 0 where
@@ -122,18 +123,26 @@ pub record Flipped (xs : List ℕ) (y : ℕ) (cs ds : List Cell) (z : ℕ) : Typ
 
 flip-one : (cs ds : List Cell) (x y z : ℕ) (xs : List ℕ) → Live cs x → occ xs x ≡ 0 → Flipped xs x (setNext cs x y) ds z → Flipped (x ∷ xs) y cs ds z
 unfolding tally
-flip-one cs ds x y z xs v once r = record { head = r .head; turned = go; rest = λ c o. r .rest c (omega arith) ∙ put-other cs x c new (λ e. omega (arith, same-of x c (sym e))) }
+flip-one cs ds x y z xs v once r = record {
+  head = r .head;
+  turned = go;
+  rest = λ c o. r .rest c (omega arith)
+      ∙ put-other cs x c new (λ e. omega (arith, same-of x c (sym e)));
+}
   where
     new : Cell
     new = followed (at cs x) y
 
     go : (i : ℕ) → i < length (x ∷ xs) → at ds (nth (x ∷ xs) i) ≡ followed (at cs (nth (x ∷ xs) i)) (getD (y ∷ x ∷ xs) i 0)
     go zero l = let k = live-cell cs x v in r .rest x once ∙ put-same cs x new (k .0) (k .1)
-    go (suc i) l = r .turned i (omega arith) ∙ ap (λ (u : Cell). followed u (getD (x ∷ xs) i 0)) (put-other cs x (nth xs i) new (nth-other xs i x (omega arith) once))
+    go (suc i) l = r .turned i (omega arith)
+        ∙ ap (λ (u : Cell). followed u (getD (x ∷ xs) i 0)) (put-other cs x (nth xs i) new (nth-other xs i x (omega arith) once))
 
-pub flip-cells : (xs : List ℕ) (k : ℕ) (cs : List Cell) (x y : ℕ) → Chain cs x xs → AllLive cs xs → length xs ≤ k → let r = flip k cs x y in Flipped xs y cs (r .0) (r .1)
+pub flip-cells : (xs : List ℕ) (k : ℕ) (cs : List Cell) (x y : ℕ) → Chain cs x xs → AllLive cs xs → length xs ≤ k
+    → let r = flip k cs x y in Flipped xs y cs (r .0) (r .1)
 unfolding Chain
-flip-cells [] k cs x y h v l = subst (λ (r : List Cell × ℕ). Flipped [] y cs (r .0) (r .1)) (sym (flip-end k cs x y h)) (record { head = refl; turned = λ i m. absurd (omega arith); rest = λ c o. refl })
+flip-cells [] k cs x y h v l = subst (λ (r : List Cell × ℕ). Flipped [] y cs (r .0) (r .1)) (sym (flip-end k cs x y h))
+    (record { head = refl; turned = λ i m. absurd (omega arith); rest = λ c o. refl })
 flip-cells (u ∷ xs) zero cs x y h v l = absurd (omega arith)
 flip-cells (u ∷ xs) (suc k) cs x y h v l =
     let w = live-first cs u xs v in
@@ -142,10 +151,12 @@ flip-cells (u ∷ xs) (suc k) cs x y h v l =
     let on : Chain (setNext cs u y) (nextOf cs u) xs = chain-put cs u (followed (at cs u) y) (nextOf cs u) xs once (h .2) in
     let same-live : AllLive (setNext cs u y) xs = λ c o. live-on c o (live-later cs u xs v c o) in
     let r = flip-cells xs k (setNext cs u y) (nextOf cs u) u on same-live (omega arith) in
-    subst (λ (t : List Cell × ℕ). Flipped (u ∷ xs) y cs (t .0) (t .1)) (sym (ap (λ (c : ℕ). flip (suc k) cs c y) (h .0) ∙ flip-next k cs u y (h .1))) (flip-one cs _ u y _ xs w once r)
+    subst (λ (t : List Cell × ℕ). Flipped (u ∷ xs) y cs (t .0) (t .1)) (sym (ap (λ (c : ℕ). flip (suc k) cs c y) (h .0) ∙ flip-next k cs u y (h .1)))
+    (flip-one cs _ u y _ xs w once r)
   where
     live-on : (c : ℕ) → 0 < occ xs c → Live cs c → Live (setNext cs u y) c
-    live-on c o m = omega (arith, ap (λ (z : Cell). z .count) (put-other cs u c (followed (at cs u) y) (λ e. omega (arith, ap (occ xs) e, first-once cs x u xs h))))
+    live-on c o m = omega
+        (arith, ap (λ (z : Cell). z .count) (put-other cs u c (followed (at cs u) y) (λ e. omega (arith, ap (occ xs) e, first-once cs x u xs h))))
 
 -- CONC: the last of a chain
 pub last-cell : (xs : List ℕ) (k : ℕ) (cs : List Cell) (x : ℕ) → Chain cs x xs → x ≢ 0 → length xs ≤ suc k → lastOf k cs x ≡ endOf xs

@@ -77,13 +77,15 @@ high-append (c ∷ cs) ys h k = (h .0, high-append cs ys (h .1) k)
 
 high-octal : (f v : ℕ) → High (octalF f v)
 high-octal zero v = (omega arith, tt)
-high-octal (suc f) v = by-case (ltb v 8) High (λ e. (omega arith, tt)) (λ e. high-append (octalF f (v / 8)) ((48 + v % 8) ∷ []) (high-octal f (v / 8)) (omega arith, tt))
+high-octal (suc f) v = by-case (ltb v 8) High (λ e. (omega arith, tt))
+    (λ e. high-append (octalF f (v / 8)) ((48 + v % 8) ∷ []) (high-octal f (v / 8)) (omega arith, tt))
 
 octal-head : (f v : ℕ) (s : List ℕ) → 48 ≤ headOf (octalF f v ++ s)
 octal-head zero v s = omega arith
 octal-head (suc f) v s =
     by-case (ltb v 8) (λ (ds : List ℕ). 48 ≤ headOf (ds ++ s)) (λ e. omega arith)
-    (λ e. subst (λ (ds : List ℕ). 48 ≤ headOf ds) (sym (append-assoc (octalF f (v / 8)) ((48 + v % 8) ∷ []) s)) (octal-head f (v / 8) (((48 + v % 8) ∷ []) ++ s)))
+    (λ e. subst (λ (ds : List ℕ). 48 ≤ headOf ds) (sym (append-assoc (octalF f (v / 8)) ((48 + v % 8) ∷ []) s))
+    (octal-head f (v / 8) (((48 + v % 8) ∷ []) ++ s)))
 
 parted : (a b s u : List ℕ) → High a → High b → headOf s < 48 → headOf u < 48 → a ++ s ≡ b ++ u → (a ≡ b) × (s ≡ u)
 parted [] [] s u h k x y e = (refl, e)
@@ -144,7 +146,8 @@ spelt nil (atom w k) f s u e = other-sort f 0 1 _ _ (sort-nil f s) (sort-atom f 
 spelt nil (list m k) f s u e = other-sort f 0 2 _ _ (sort-nil f s) (sort-list f m k u) (λ z. omega arith) e
 spelt (atom v l) nil f s u e = other-sort f 1 0 _ _ (sort-atom f v l s) (sort-nil f u) (λ z. omega arith) e
 spelt (atom v l) (atom w k) f s u e =
-    let t : octal v ++ (items false l ++ s) ≡ octal w ++ (items false k ++ u) = sym (append-assoc (octal v) (items false l) s) ∙ ap tailOf e ∙ append-assoc (octal w) (items false k) u in
+    let t : octal v ++ (items false l ++ s) ≡ octal w ++ (items false k ++ u)
+    = sym (append-assoc (octal v) (items false l) s) ∙ ap tailOf e ∙ append-assoc (octal w) (items false k) u in
     let (d, r) = parted (octal v) (octal w) (items false l ++ s) (items false k ++ u) (high-octal 10 v) (high-octal 10 w) (later-head l s) (later-head k u) t in
     let q : v ≡ w = sym (told-octal 10 v) ∙ ap (told 0) d ∙ told-octal 10 w in
     let (h, z) = spelt l k false s u r in
@@ -153,7 +156,8 @@ spelt (atom v l) (list m k) f s u e = other-sort f 1 2 _ _ (sort-atom f v l s) (
 spelt (list n l) nil f s u e = other-sort f 2 0 _ _ (sort-list f n l s) (sort-nil f u) (λ z. omega arith) e
 spelt (list n l) (atom w k) f s u e = other-sort f 2 1 _ _ (sort-list f n l s) (sort-atom f w k u) (λ z. omega arith) e
 spelt (list n l) (list m k) f s u e =
-    let t : items true n ++ (items false l ++ s) ≡ items true m ++ (items false k ++ u) = sym (append-assoc (items true n) (items false l) s) ∙ ap tailOf e ∙ append-assoc (items true m) (items false k) u in
+    let t : items true n ++ (items false l ++ s) ≡ items true m ++ (items false k ++ u)
+    = sym (append-assoc (items true n) (items false l) s) ∙ ap tailOf e ∙ append-assoc (items true m) (items false k) u in
     let (d, r) = spelt n m true (items false l ++ s) (items false k ++ u) t in
     let (h, z) = spelt l k false s u r in
     (λ i. list (d i) (h i), z)

@@ -58,7 +58,8 @@ full = readsOver .run one (zeros 2) (prefix 0 5) (zeros 2) .table
 pub reads-over : ReadRefusals Four readsOver → ⊥
 unfolding computed readingIn verdict scanned
 reads-over d =
-    let e : _≡_ {A = ℕ} 0 10 = one-answer (readRows Four full (zeros 2) 0 null) _ _ (d full (zeros 2) 0 null) (demand1 Four .read-refusals full (zeros 2) 0 null) in
+    let e : _≡_ {A = ℕ} 0 10 = one-answer (readRows Four full (zeros 2) 0 null) _ _ (d full (zeros 2) 0 null)
+    (demand1 Four .read-refusals full (zeros 2) 0 null) in
     omega arith
 
 -- no output takes no text
@@ -73,7 +74,9 @@ pub keeps-one-back : NoRoomToRead Four keepsOneBack → ⊥
 unfolding computed readingIn verdict scanned listIn extent load read
 keeps-one-back d =
     let xs = record72 (40 ∷ 49 ∷ 41 ∷ []) 69 in
-    let (n, _) = first-none (checkRows xs) (λ m. m ≡ DONE) DONE ((λ z. omega arith), ((λ z. omega arith), ((λ z. omega arith), ((λ z. omega arith), ((λ z. omega arith), tt))))) (demand1 Four .check-refusals xs) in
+    let (n, _) = first-none (checkRows xs) (λ m. m ≡ DONE) DONE
+    ((λ z. omega arith), ((λ z. omega arith), ((λ z. omega arith), ((λ z. omega arith), ((λ z. omega arith), tt))))) (demand1 Four .check-refusals xs) in
     let k : Number (Used (shown Four one)) 1 0 = miss (none-used (shown Four one) refl 1 (λ z. omega arith)) start in
-    let l = d one (zeros 2) 0 xs 0 72 (listIn xs) (inl (made (zeros 70) 1 refl)) (λ h. omega arith) (λ h. omega arith) (n .0, (n .1 .0, tt)) refl (n .1 .1) k (spells-ours xs refl) .0 refl in
+    let l = d one (zeros 2) 0 xs 0 72 (listIn xs) (inl (made (zeros 70) 1 refl)) (λ h. omega arith) (λ h. omega arith) (n .0, (n .1 .0, tt)) refl
+    (n .1 .1) k (spells-ours xs refl) .0 refl in
     omega (arith, l)

@@ -40,12 +40,14 @@ takes-second d = let e : _≡_ {A = ℕ} 2 1 = d two (zeros 4) (zeros 2) (prefix
 -- holder 63 is not used
 pub spills-over : HoldersStay Four spills → ⊥
 unfolding computed
-spills-over d = let e : _≡_ {A = ℕ} 1 0 = d two (zeros 4) (zeros 2) (prefixing 0 5) refl 63 (λ z. omega arith) (λ u. absurd (tells-among 1 withB .1 refl u)) in omega arith
+spills-over d = let e : _≡_ {A = ℕ} 1 0 = d two (zeros 4) (zeros 2) (prefixing 0 5) refl 63 (λ z. omega arith)
+    (λ u. absurd (tells-among 1 withB .1 refl u)) in omega arith
 
 -- cell 1 has the atom 7 before and 5 after
 pub inserts-behind : LiveCellsStay Four insertsBehind → ⊥
 unfolding computed
-inserts-behind d = let e : _≡_ {A = ℕ} 5 7 = d (after insertsBehind (prefix 0 7)) (zeros 4) (zeros 2) (prefixing 0 5) refl 1 (omega arith) (omega arith) .1 in omega arith
+inserts-behind d = let e : _≡_ {A = ℕ} 5 7 = d (after insertsBehind (prefix 0 7)) (zeros 4) (zeros 2) (prefixing 0 5) refl 1 (omega arith)
+    (omega arith) .1 in omega arith
 
 -- holder 1 still has its list
 pub keeps-b : PrefixListTakesHead Four keepsB → ⊥
@@ -73,7 +75,8 @@ forgets-to-erase d =
 pub never-turns : InvTurns Four neverTurns → ⊥
 unfolding computed Chain
 never-turns d =
-    let c : Chain (shown Four (after neverTurns (prefix 0 7 ++ prefix 0 5)) .cells) 2 (2 ∷ 1 ∷ []) = (refl, (λ z. omega arith), (refl, (λ z. omega arith), refl)) in
+    let c : Chain (shown Four (after neverTurns (prefix 0 7 ++ prefix 0 5)) .cells) 2 (2 ∷ 1 ∷ [])
+    = (refl, (λ z. omega arith), (refl, (λ z. omega arith), refl)) in
     let e : _≡_ {A = ℕ} 2 1 = d (after neverTurns (prefix 0 7 ++ prefix 0 5)) (zeros 4) (zeros 2) (on INV) refl refl (2 ∷ 1 ∷ []) c .head in
     omega arith
 
@@ -81,13 +84,15 @@ never-turns d =
 pub shares-short : CinvCopies Four sharesShort → ⊥
 unfolding computed cinv copy Chain
 shares-short d =
-    let e : _≡_ {A = ℕ} 1 2 = d (after sharesShort (prefix 0 5)) (zeros 4) (zeros 2) (on CINV) refl refl (1 ∷ []) (2 ∷ []) (refl, (λ z. omega arith), refl) (refl, (λ z. omega arith), refl) .head in
+    let e : _≡_ {A = ℕ} 1 2 = d (after sharesShort (prefix 0 5)) (zeros 4) (zeros 2) (on CINV) refl refl (1 ∷ []) (2 ∷ []) (refl, (λ z. omega arith), refl)
+    (refl, (λ z. omega arith), refl) .head in
     omega arith
 
 -- holder 0 is null, and gets the list of holder 1
 pub keeps-apart : ConcJoins Four keepsApart → ⊥
 unfolding computed Chain
-keeps-apart d = let e : _≡_ {A = ℕ} 0 1 = d (after keepsApart (prefix 1 5)) (zeros 4) (zeros 2) (on CONC) refl refl [] refl .given (λ z. omega arith) refl .0 in omega arith
+keeps-apart d = let e : _≡_ {A = ℕ} 0 1 = d (after keepsApart (prefix 1 5)) (zeros 4) (zeros 2) (on CONC) refl refl [] refl .given
+    (λ z. omega arith) refl .0 in omega arith
 
 pub loses-free : AskingLeaves Four losesFree → ⊥
 unfolding computed

@@ -32,7 +32,8 @@ abbrev pub insertsBehind : Engine
 insertsBehind = instead PFA (λ p o. eqb (countOf (p .cells) (holder p (o .a))) 1) (λ p o.
     let x = holder p (o .a) in
     let f = p .free in
-    tellsNothing (pool (nextOf (p .cells) f) (p .holders) (put (put (p .cells) f (cellOf (kindOf (p .cells) x) (elemOf (p .cells) x) (nextOf (p .cells) x))) x (cellOf 0 (o .v) f))))
+    tellsNothing (pool (nextOf (p .cells) f) (p .holders)
+    (put (put (p .cells) f (cellOf (kindOf (p .cells) x) (elemOf (p .cells) x) (nextOf (p .cells) x))) x (cellOf 0 (o .v) f))))
 
 -- PFA that leaves the number of its cell in the last holder too
 abbrev pub spills : Engine

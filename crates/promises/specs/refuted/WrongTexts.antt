@@ -29,7 +29,13 @@ countsRefused = taking (readIn) (λ xs. record { no = verdict xs .no; taken = 99
 -- takes cells while it reads, and keeps them where the text has a fault
 abbrev pub keepsCells : Engine
 keepsCells = taking
-    (λ ts ws h xs. let r = readIn ts ws h xs in record { answer = r .answer; count = r .count; table = cond (eqb (r .answer) NOT-A-LIST) (set ts 1 0) (r .table); work = r .work })
+    (λ ts ws h xs. let r = readIn ts ws h xs in record {
+      answer = r .answer;
+      count = r .count;
+      table = cond (eqb (r .answer) NOT-A-LIST) (set ts 1 0)
+          (r .table);
+      work = r .work;
+    })
     verdict
 
 -- says of a text that is taken that it is taken whole, records behind the list and all
@@ -57,7 +63,13 @@ countsNoDigits = taking (readIn) (λ xs. cond (eqb (verdict xs .no) ATOM) (answe
 -- ours with the list of a text put into its holder in another way
 abbrev placing : (Pool → ℕ → Lst → Pool) → Engine
 placing f = taking
-    (λ ts ws h xs. let r = readIn ts ws h xs in record { answer = r .answer; count = r .count; table = cond (eqb (r .answer) DONE) (stored Four ts (f (shown Four ts) h (listIn xs))) (r .table); work = r .work })
+    (λ ts ws h xs. let r = readIn ts ws h xs in record {
+      answer = r .answer;
+      count = r .count;
+      table = cond (eqb (r .answer) DONE)
+          (stored Four ts (f (shown Four ts) h (listIn xs))) (r .table);
+      work = r .work;
+    })
     verdict
 
 -- prefixes the elements as they come, and does not turn the list at the end
@@ -84,11 +96,19 @@ handing f = record { setUp = ours Four .setUp; run = ours Four .run; read = ours
 
 -- reads into a holder that has a list
 abbrev pub readsOver : Engine
-readsOver = taking (λ ts ws h xs. let r = readIn ts ws h xs in record { answer = cond (eqb (r .answer) OCCUPIED) DONE (r .answer); count = r .count; table = r .table; work = r .work }) verdict
+readsOver = taking (λ ts ws h xs. let r = readIn ts ws h xs in record {
+  answer = cond (eqb (r .answer) OCCUPIED) DONE
+      (r .answer);
+  count = r .count;
+  table = r .table;
+  work = r .work;
+}) verdict
 
 -- keeps one cell back: a list that would take all that are free has no room
 abbrev pub keepsOneBack : Engine
-keepsOneBack = taking (λ ts ws h xs. let r = readIn ts ws h xs in cond (eqb (r .answer) DONE && eqb (frees (shown Four ts .cells)) (extent (listIn xs))) (notRead NO-ROOM ts (r .work)) r) verdict
+keepsOneBack = taking
+    (λ ts ws h xs. let r = readIn ts ws h xs in cond (eqb (r .answer) DONE && eqb (frees (shown Four ts .cells)) (extent (listIn xs)))
+    (notRead NO-ROOM ts (r .work)) r) verdict
 
 -- hands nothing back
 abbrev pub losesRest : Engine
@@ -104,7 +124,13 @@ writesWhatFits = record {
   setUp = ours Four .setUp;
   run = ours Four .run;
   read = ours Four .read;
-  write = λ ts ws h out. let r = writeOut ts ws h out in record { answer = cond (eqb (r .answer) OUTPUT) DONE (r .answer); count = r .count; work = r .work; output = r .output };
+  write = λ ts ws h out. let r = writeOut ts ws h out in record {
+    answer = cond (eqb (r .answer) OUTPUT) DONE
+        (r .answer);
+    count = r .count;
+    work = r .work;
+    output = r .output;
+  };
   check = ours Four .check;
   rest = ours Four .rest;
 }

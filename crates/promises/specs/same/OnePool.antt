@@ -56,7 +56,8 @@ find-taken n xs c o =
     (i, b, sym (getD-take n xs i 0 b) ∙ e)
 
 -- cells that two pools have alike: those at the places of a list, and those that do not stand in it
-by-place : (xs : List ℕ) (n : ℕ) (cs ds : List Cell) → ((i : ℕ) → i < n → at cs (nth xs i) ≡ at ds (nth xs i)) → ((c : ℕ) → c ≢ 0 → occ (take n xs) c ≡ 0 → at cs c ≡ at ds c) → (c : ℕ) → c ≢ 0 → at cs c ≡ at ds c
+by-place : (xs : List ℕ) (n : ℕ) (cs ds : List Cell) → ((i : ℕ) → i < n → at cs (nth xs i) ≡ at ds (nth xs i))
+    → ((c : ℕ) → c ≢ 0 → occ (take n xs) c ≡ 0 → at cs c ≡ at ds c) → (c : ℕ) → c ≢ 0 → at cs c ≡ at ds c
 by-place xs n cs ds f g c some = go (ℕ-discrete (occ (take n xs) c) 0)
   where
     go : Dec (occ (take n xs) c ≡ 0) → at cs c ≡ at ds c
@@ -105,10 +106,12 @@ module _ (o : Operation) (p q r : Pool) (f : Framed o p q) (g : Framed o p r) wh
   one-prefixed n x y = equal (with-a n (x .head ∙ sym (y .head))) (x .free ∙ sym (y .free)) (alike (λ c _. only-once (x .cells) (y .cells) c))
 
   pub one-prefixed-list : {t e : ℕ} → Prefixed t e (o .a) p q × (holder q (o .b) ≡ 0) → Prefixed t e (o .a) p r × (holder r (o .b) ≡ 0) → q ≡ r
-  one-prefixed-list (x, u) (y, v) = equal (with-b (x .head ∙ sym (y .head)) (u ∙ sym v)) (x .free ∙ sym (y .free)) (alike (λ c _. only-once (x .cells) (y .cells) c))
+  one-prefixed-list (x, u) (y, v) = equal (with-b (x .head ∙ sym (y .head)) (u ∙ sym v)) (x .free ∙ sym (y .free))
+      (alike (λ c _. only-once (x .cells) (y .cells) c))
 
   pub one-beheaded : Beheaded (o .a) (o .b) p q → Beheaded (o .a) (o .b) p r → q ≡ r
-  one-beheaded x y = equal (with-b (x .tail ∙ sym (y .tail)) (x .element ∙ sym (y .element))) (x .free ∙ sym (y .free)) (alike (λ c _. only-once (x .cells) (y .cells) c))
+  one-beheaded x y = equal (with-b (x .tail ∙ sym (y .tail)) (x .element ∙ sym (y .element))) (x .free ∙ sym (y .free))
+      (alike (λ c _. only-once (x .cells) (y .cells) c))
 
   pub one-advanced : Advanced (o .a) (o .b) p q → Advanced (o .a) (o .b) p r → q ≡ r
   one-advanced x y =
@@ -120,13 +123,15 @@ module _ (o : Operation) (p q r : Pool) (f : Framed o p q) (g : Framed o p r) wh
   one-borrowed x y = equal (with-b (x .kept ∙ sym (y .kept)) (x .shared ∙ sym (y .shared))) (x .free ∙ sym (y .free)) (lent-once (x .cells) (y .cells))
 
   pub one-erased : {n m : ℕ} → (UsesB (o .code) → ⊥) → holder q (o .a) ≡ 0 → holder r (o .a) ≡ 0
-      → Erased (q .free) (q .cells) (p .free) (p .cells) (holder p (o .a)) [] n → Erased (r .free) (r .cells) (p .free) (p .cells) (holder p (o .a)) [] m → (q ≡ r) × (n ≡ m)
+      → Erased (q .free) (q .cells) (p .free) (p .cells) (holder p (o .a)) [] n → Erased (r .free) (r .cells) (p .free) (p .cells) (holder p (o .a)) [] m
+      → (q ≡ r) × (n ≡ m)
   one-erased u x y d e = let s = one-end d e in (equal (with-a u (x ∙ sym y)) (s .free) (s .cells), s .freed)
 
   pub one-turned : {xs : List ℕ} → (UsesB (o .code) → ⊥) → Turned xs (o .a) p q → Turned xs (o .a) p r → q ≡ r
   one-turned {xs} n x y =
       equal (with-a n (x .head ∙ sym (y .head))) (x .free ∙ sym (y .free))
-      (alike (by-place xs (length xs) (q .cells) (r .cells) (λ i l. x .turned i l ∙ sym (y .turned i l)) (λ c _ z. let w = ap (λ (us : List ℕ). occ us c) (sym (take-all xs)) ∙ z in x .rest c w ∙ sym (y .rest c w))))
+      (alike (by-place xs (length xs) (q .cells) (r .cells) (λ i l. x .turned i l ∙ sym (y .turned i l))
+      (λ c _ z. let w = ap (λ (us : List ℕ). occ us c) (sym (take-all xs)) ∙ z in x .rest c w ∙ sym (y .rest c w))))
     where
       take-all : (us : List ℕ) → take (length us) us ≡ us
       take-all [] = refl
@@ -138,7 +143,8 @@ module _ (o : Operation) (p q r : Pool) (f : Framed o p q) (g : Framed o p r) wh
       (alike (by-place fs (length xs) (q .cells) (r .cells) (λ i l. x .copied i l ∙ sym (y .copied i l)) (λ c n z. x .rest c n z ∙ sym (y .rest c n z))))
 
   pub one-joined : {xs : List ℕ} → Joined xs (o .a) (o .b) p q → Joined xs (o .a) (o .b) p r → q ≡ r
-  one-joined {xs} x y = let (h, c) = go (ℕ-discrete (holder p (o .b)) 0) (ℕ-discrete (holder p (o .a)) 0) in equal (with-b h (x .null ∙ sym (y .null))) (x .free ∙ sym (y .free)) (alike c)
+  one-joined {xs} x y = let (h, c) = go (ℕ-discrete (holder p (o .b)) 0) (ℕ-discrete (holder p (o .a)) 0) in equal (with-b h (x .null ∙ sym (y .null)))
+      (x .free ∙ sym (y .free)) (alike c)
     where
       Agree : Type 0
       Agree = (holder q (o .a) ≡ holder r (o .a)) × ((c : ℕ) → c ≢ 0 → at (q .cells) c ≡ at (r .cells) c)
@@ -149,7 +155,8 @@ module _ (o : Operation) (p q r : Pool) (f : Framed o p q) (g : Framed o p r) wh
       go (no b) (no a) = (x .joined b a .0 ∙ sym (y .joined b a .0), λ c _. only-once (x .joined b a .1) (y .joined b a .1) c)
 
 -- a list read: its elements fix the cells that it takes
-laid-once : (ds es : List Cell) (fs : ℕ → ℕ) (l : Lst) (k : ℕ) → Laid ds fs k l → Laid es fs k l → (j : ℕ) → k ≤ j → j < k + extent l → at ds (fs j) ≡ at es (fs j)
+laid-once : (ds es : List Cell) (fs : ℕ → ℕ) (l : Lst) (k : ℕ) → Laid ds fs k l → Laid es fs k l → (j : ℕ) → k ≤ j → j < k + extent l
+    → at ds (fs j) ≡ at es (fs j)
 unfolding Laid extent
 laid-once ds es fs nil k x y j h m = absurd (omega arith)
 laid-once ds es fs (atom v l) k x y j h m = go (ℕ-discrete j k) (laid-once ds es fs l (suc k) (x .1) (y .1) j)
@@ -157,9 +164,11 @@ laid-once ds es fs (atom v l) k x y j h m = go (ℕ-discrete j k) (laid-once ds 
     go : Dec (j ≡ k) → (suc k ≤ j → j < suc k + extent l → at ds (fs j) ≡ at es (fs j)) → at ds (fs j) ≡ at es (fs j)
     go (yes e) ih = rw e (x .0 ∙ sym (y .0))
     go (no n) ih = ih (omega arith) (omega arith)
-laid-once ds es fs (list e l) k x y j h m = go (ℕ-discrete j k) (decLt j (suc k + extent e)) (laid-once ds es fs e (suc k) (x .1) (y .1) j) (laid-once ds es fs l (suc k + extent e) (x .2) (y .2) j)
+laid-once ds es fs (list e l) k x y j h m = go (ℕ-discrete j k) (decLt j (suc k + extent e)) (laid-once ds es fs e (suc k) (x .1) (y .1) j)
+    (laid-once ds es fs l (suc k + extent e) (x .2) (y .2) j)
   where
-    go : Dec (j ≡ k) → Dec (j < suc k + extent e) → (suc k ≤ j → j < suc k + extent e → at ds (fs j) ≡ at es (fs j)) → (suc k + extent e ≤ j → j < suc k + extent e + extent l → at ds (fs j) ≡ at es (fs j)) → at ds (fs j) ≡ at es (fs j)
+    go : Dec (j ≡ k) → Dec (j < suc k + extent e) → (suc k ≤ j → j < suc k + extent e → at ds (fs j) ≡ at es (fs j))
+        → (suc k + extent e ≤ j → j < suc k + extent e + extent l → at ds (fs j) ≡ at es (fs j)) → at ds (fs j) ≡ at es (fs j)
     go (yes q) d inner later = rw q (x .0 ∙ sym (y .0))
     go (no n) (yes d) inner later = inner (omega arith) d
     go (no n) (no d) inner later = later (omega arith) (omega arith)
@@ -167,7 +176,8 @@ laid-once ds es fs (list e l) k x y j h m = go (ℕ-discrete j k) (decLt j (suc 
 pub one-read : (l : Lst) (fs : List ℕ) (h : ℕ) (p q r : Pool) → ReadIn l fs h p q → ReadIn l fs h p r → q ≡ r
 one-read l fs h p q r x y = same-pool p q r (x .sized) (y .sized) held (x .free ∙ sym (y .free))
     (same-cells (q .cells) (r .cells) (x .sized .cells ∙ sym (y .sized .cells))
-    (by-place fs (extent l) (q .cells) (r .cells) (λ i m. laid-once (q .cells) (r .cells) (nth fs) l 0 (x .laid) (y .laid) i (omega arith) (omega arith)) (λ c _ z. x .rest c z ∙ sym (y .rest c z))))
+    (by-place fs (extent l) (q .cells) (r .cells) (λ i m. laid-once (q .cells) (r .cells) (nth fs) l 0 (x .laid) (y .laid) i (omega arith) (omega arith))
+    (λ c _ z. x .rest c z ∙ sym (y .rest c z))))
   where
     held : (i : ℕ) → holder q i ≡ holder r i
     held i = go (ℕ-discrete i h)
@@ -191,7 +201,8 @@ pub record Does (o : Operation) (p q : Pool) : Type 0 where
   pub conc : o .code ≡ CONC → (xs : List ℕ) → Chain (p .cells) (holder p (o .a)) xs → Joined xs (o .a) (o .b) p q
   pub asks : OneOf (o .code) asking → q ≡ p
 
-pub does : (form : Form) (E : Engine) → Demand2 form E → (ts ws rs : List ℕ) (o : Operation) → let r = E .run ts ws (wordsOf o) rs in r .answer ≡ DONE → Does o (shown form ts) (shown form (r .table))
+pub does : (form : Form) (E : Engine) → Demand2 form E → (ts ws rs : List ℕ) (o : Operation) → let r = E .run ts ws (wordsOf o) rs in r .answer ≡ DONE
+    → Does o (shown form ts) (shown form (r .table))
 does form E D ts ws rs o e = record {
   framed = record { sized = D .sizes-stay ts ws rs o e; others = D .holders-stay ts ws rs o e };
   pfa = D .prefix-takes-head ts ws rs o e;
@@ -232,14 +243,18 @@ one-pool o p q r s l m x y = go (code-of LENGTH (o .code) l m)
     go (inl e) = x .asks (inr (inl e)) ∙ sym (y .asks (inr (inl e)))
     go (inr (inl e)) = x .asks (inl e) ∙ sym (y .asks (inl e))
     go (inr (inr (inl e))) = one-joined o p q r (x .framed) (y .framed) (x .conc e (main .0) (main .1)) (y .conc e (main .0) (main .1))
-    go (inr (inr (inr (inl e)))) = one-copied o p q r (x .framed) (y .framed) (x .cinv e (main .0) (s .chain .0) (main .1) (s .chain .1)) (y .cinv e (main .0) (s .chain .0) (main .1) (s .chain .1))
-    go (inr (inr (inr (inr (inl e))))) = one-turned o p q r (x .framed) (y .framed) (alone INV refl e) (x .inv e (main .0) (main .1)) (y .inv e (main .0) (main .1))
-    go (inr (inr (inr (inr (inr (inl e)))))) = one-erased o p q r (x .framed) (y .framed) (alone ERASE refl e) (x .erase e .0) (y .erase e .0) (x .erase e .1 .1) (y .erase e .1 .1) .0
+    go (inr (inr (inr (inl e)))) = one-copied o p q r (x .framed) (y .framed) (x .cinv e (main .0) (s .chain .0) (main .1) (s .chain .1))
+        (y .cinv e (main .0) (s .chain .0) (main .1) (s .chain .1))
+    go (inr (inr (inr (inr (inl e))))) = one-turned o p q r (x .framed) (y .framed) (alone INV refl e) (x .inv e (main .0) (main .1))
+        (y .inv e (main .0) (main .1))
+    go (inr (inr (inr (inr (inr (inl e)))))) = one-erased o p q r (x .framed) (y .framed) (alone ERASE refl e) (x .erase e .0) (y .erase e .0)
+        (x .erase e .1 .1) (y .erase e .1 .1) .0
     go (inr (inr (inr (inr (inr (inr (inl e))))))) = one-borrowed o p q r (x .framed) (y .framed) (x .borrow e) (y .borrow e)
     go (inr (inr (inr (inr (inr (inr (inr (inl e)))))))) = one-advanced o p q r (x .framed) (y .framed) (x .adv e) (y .adv e)
     go (inr (inr (inr (inr (inr (inr (inr (inr (inl e))))))))) = one-beheaded o p q r (x .framed) (y .framed) (x .decap e) (y .decap e)
     go (inr (inr (inr (inr (inr (inr (inr (inr (inr (inl e)))))))))) = one-prefixed-list o p q r (x .framed) (y .framed) (x .pfl e) (y .pfl e)
-    go (inr (inr (inr (inr (inr (inr (inr (inr (inr (inr (inl e))))))))))) = one-prefixed o p q r (x .framed) (y .framed) (alone PFA refl e) (x .pfa e) (y .pfa e)
+    go (inr (inr (inr (inr (inr (inr (inr (inr (inr (inr (inl e))))))))))) = one-prefixed o p q r (x .framed) (y .framed) (alone PFA refl e) (x .pfa e)
+        (y .pfa e)
     go (inr (inr (inr (inr (inr (inr (inr (inr (inr (inr (inr e))))))))))) = absurd e
 
 -- a table is fixed by the pool that it shows, if that has cells

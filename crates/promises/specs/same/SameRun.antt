@@ -57,13 +57,16 @@ unfolding says
 says-erase m o n e = rw e
 
 -- the pool's operation answers its rows
-rows-refusal : (form : Form) → (ts : List ℕ) (o : Operation) (n : ℕ) → Good form ts → Answers (operationRows (shown form ts) o) n → refusal (shown form ts) o ≡ n
+rows-refusal : (form : Form) → (ts : List ℕ) (o : Operation) (n : ℕ) → Good form ts → Answers (operationRows (shown form ts) o) n
+    → refusal (shown form ts) o ≡ n
 rows-refusal form ts o n g a = one-answer (operationRows (shown form ts) o) (refusal (shown form ts) o) n (operation-answers (shown form ts) o (g .sound)) a
 
 -- and our run of it alone
-done-alone : (form : Form) (ts ws : List ℕ) (o : Operation) → Good form ts → badWork form ts ws ≡ false → refusal (shown form ts) o ≡ DONE → ranIn form ts ws (wordsOf o) zeros .answer ≡ DONE
+done-alone : (form : Form) (ts ws : List ℕ) (o : Operation) → Good form ts → badWork form ts ws ≡ false → refusal (shown form ts) o ≡ DONE
+    → ranIn form ts ws (wordsOf o) zeros .answer ≡ DONE
 unfolding operations
-done-alone form ts ws o g w e = ap (λ (r : Ran). r .answer) (runs form ts ws (wordsOf o) zeros (one-passes form ts ws o g w)) ∙ one-answered (shown form ts) o ∙ e
+done-alone form ts ws o g w e = ap (λ (r : Ran). r .answer) (runs form ts ws (wordsOf o) zeros (one-passes form ts ws o g w))
+    ∙ one-answered (shown form ts) o ∙ e
 
 code-fits : (o : Operation) → badCode o ≡ false → (1 ≤ o .code) × (o .code ≤ LENGTH)
 code-fits o e = (go (decLt (o .code) PFA), up (decLt LENGTH (o .code)))
@@ -94,15 +97,18 @@ module _ (form : Form) (E : Engine) (K : Keeps form E) (ws : List ℕ) where
         let d = done-alone form ts ws o g w e in
         let code = code-fits o (allowed p o e .opened .coded) in
         let shows : shown form (alone E ws ts o .table) ≡ shown form (ranIn form ts ws (wordsOf o) zeros .table)
-        = one-pool o p _ _ (g .sound) (code .0) (code .1) (does form E (K .second) ts ws zeros o allows) (does form (ours form) (ours-keeps form .second) ts ws zeros o d) in
-        same-table form (alone E ws ts o .table) (stored form ts (effect p o .pool)) (effect-stored form ts o g e .table) (shows ∙ ap (shown form) (one-accepted form ts ws zeros o d .table))
+        = one-pool o p _ _ (g .sound) (code .0) (code .1) (does form E (K .second) ts ws zeros o allows)
+        (does form (ours form) (ours-keeps form .second) ts ws zeros o d) in
+        same-table form (alone E ws ts o .table) (stored form ts (effect p o .pool)) (effect-stored form ts o g e .table)
+        (shows ∙ ap (shown form) (one-accepted form ts ws zeros o d .table))
 
     -- the number of ERASE is that of the cells that only a reaches
     erased-are : o .code ≡ ERASE → (n : ℕ) → alone E ws ts o .results ≡ 2 ∷ n ∷ [] → 2 ∷ n ∷ [] ≡ told (effect (shown form ts) o)
     erased-are h n q =
         let code : wordsOf o ≡ erasing (o .a) (o .b) (o .v) = ap (λ (c : ℕ). c ∷ o .a ∷ o .b ∷ o .v ∷ []) h in
         let c = K .third .erase-counts ts ws zeros (o .a) (o .b) (o .v) (subst (λ (ss : List ℕ). E .run ts ws ss zeros .answer ≡ DONE) code allows) .1 in
-        let r : n ≡ getD (E .run ts ws (erasing (o .a) (o .b) (o .v)) zeros .results) 1 0 = sym (ap (λ (qs : List ℕ). getD qs 1 0) q) ∙ ap (λ (ss : List ℕ). getD (E .run ts ws ss zeros .results) 1 0) code in
+        let r : n ≡ getD (E .run ts ws (erasing (o .a) (o .b) (o .v)) zeros .results) 1 0
+        = sym (ap (λ (qs : List ℕ). getD qs 1 0) q) ∙ ap (λ (ss : List ℕ). getD (E .run ts ws ss zeros .results) 1 0) code in
         let u : n ≡ erase (shown form ts) (o .a) .1 = r ∙ Number-unique (OnlyBy (shown form ts) (o .a)) c (erases (shown form ts) (o .a) (g .sound) .number) in
         let d : effect (shown form ts) o ≡ tellsNumber (erase (shown form ts) (o .a) .1) (erase (shown form ts) (o .a) .0)
         = ap (λ (x : ℕ). effect (shown form ts) (record { code = x; a = o .a; b = o .b; v = o .v })) h ∙ effect-erase (shown form ts) (o .a) (o .b) (o .v) in
@@ -143,5 +149,6 @@ module _ (form : Form) (E : Engine) (K : Keeps form E) (ws : List ℕ) where
         x ∙ ap (λ (p : Pool). performed p os .answer) (st .shows),
         ap suc (y ∙ ap (λ (p : Pool). performed p os .done) (st .shows)),
         z ∙ st .again _ ∙ ap (λ (p : Pool). stored form ts (performed p os .pool)) (st .shows),
-        ap (λ (rs : List ℕ). rs ++ qs) (results-are ts o g w a) ∙ ap (λ (rs : List ℕ). told (effect (shown form ts) o) ++ rs) (v ∙ ap (λ (p : Pool). performed p os .results) (st .shows)),
+        ap (λ (rs : List ℕ). rs ++ qs) (results-are ts o g w a)
+            ∙ ap (λ (rs : List ℕ). told (effect (shown form ts) o) ++ rs) (v ∙ ap (λ (p : Pool). performed p os .results) (st .shows)),
       )

@@ -27,16 +27,19 @@ use Rattle.table.specs.declared.Form.{Form}
 -- a reading that is done: the table was sound and is a table again, and the list is the text's
 module _ (form : Form) (ts ws : List ℕ) (h : ℕ) (xs : List ℕ) where
   taken-sound : readingIn form ts ws h xs .answer ≡ DONE → Sound (shown form ts)
-  taken-sound = read-ways form ts ws h xs (λ (r : Reading). r .answer ≡ DONE → Sound (shown form ts)) (λ n us d e. absurd (d e)) (λ t e. entered-good form ts ws h xs (t .entered) .sound)
+  taken-sound = read-ways form ts ws h xs (λ (r : Reading). r .answer ≡ DONE → Sound (shown form ts)) (λ n us d e. absurd (d e))
+      (λ t e. entered-good form ts ws h xs (t .entered) .sound)
 
   taken-good : readingIn form ts ws h xs .answer ≡ DONE → Good form (readingIn form ts ws h xs .table)
   taken-good e = read-good form ts ws h xs (good-before e)
     where
       good-before : readingIn form ts ws h xs .answer ≡ DONE → Good form ts
-      good-before = read-ways form ts ws h xs (λ (r : Reading). r .answer ≡ DONE → Good form ts) (λ n us d e. absurd (d e)) (λ t e. entered-good form ts ws h xs (t .entered))
+      good-before = read-ways form ts ws h xs (λ (r : Reading). r .answer ≡ DONE → Good form ts) (λ n us d e. absurd (d e))
+          (λ t e. entered-good form ts ws h xs (t .entered))
 
   taken-spells : readingIn form ts ws h xs .answer ≡ DONE → Spells xs (readingIn form ts ws h xs .count) (listIn xs)
-  taken-spells = read-ways form ts ws h xs (λ (r : Reading). r .answer ≡ DONE → Spells xs (r .count) (listIn xs)) (λ n us d e. absurd (d e)) (λ t e. spells-ours xs (t .right))
+  taken-spells = read-ways form ts ws h xs (λ (r : Reading). r .answer ≡ DONE → Spells xs (r .count) (listIn xs)) (λ n us d e. absurd (d e))
+      (λ t e. spells-ours xs (t .right))
 
 module _ (form : Form) (E : Engine) (K : Keeps form E) where
   pub same-check : (xs : List ℕ) → E .check xs ≡ verdict xs
@@ -60,7 +63,8 @@ module _ (form : Form) (E : Engine) (K : Keeps form E) where
       go (no d) = K .second .rest-gives xs .1 (λ z. d (sym number ∙ z)) ∙ sym (ours-keeps form .second .rest-gives xs .1 d)
 
   pub same-read : (ts ws : List ℕ) (h : ℕ) (xs : List ℕ) → E .read ts ws h xs ≡ readingIn form ts ws h xs
-  same-read ts ws h xs = by-parts-read form ts ws h xs (go (ℕ-discrete (readingIn form ts ws h xs .answer) DONE)) (record { answer = refl; count = refl; table = refl; work = refl })
+  same-read ts ws h xs = by-parts-read form ts ws h xs (go (ℕ-discrete (readingIn form ts ws h xs .answer) DONE))
+      (record { answer = refl; count = refl; table = refl; work = refl })
     where
       rows : List Row
       rows = readRows form ts ws h xs
@@ -69,7 +73,9 @@ module _ (form : Form) (E : Engine) (K : Keeps form E) where
       answer = one-answer rows _ _ (K .first .read-refusals ts ws h xs) (ours-keeps form .first .read-refusals ts ws h xs)
 
       work : E .read ts ws h xs .work ≡ readingIn form ts ws h xs .work
-      work = same-work (take 5 rows) ts ws (E .read ts ws h xs .work) (readingIn form ts ws h xs .work) (decide 5 rows (λ m. m ≡ DONE) (readingIn form ts ws h xs .answer) (ours-keeps form .first .read-refusals ts ws h xs)) (K .first .read-work ts ws h xs) (ours-keeps form .first .read-work ts ws h xs)
+      work = same-work (take 5 rows) ts ws (E .read ts ws h xs .work) (readingIn form ts ws h xs .work)
+          (decide 5 rows (λ m. m ≡ DONE) (readingIn form ts ws h xs .answer) (ours-keeps form .first .read-refusals ts ws h xs))
+          (K .first .read-work ts ws h xs) (ours-keeps form .first .read-work ts ws h xs)
 
       -- the list of the text and the free chain fix what the table shows
       shows : readingIn form ts ws h xs .answer ≡ DONE → shown form (E .read ts ws h xs .table) ≡ shown form (readingIn form ts ws h xs .table)
@@ -79,7 +85,8 @@ module _ (form : Form) (E : Engine) (K : Keeps form E) where
           let w = taken-spells form ts ws h xs e in
           let count = takes-once xs _ _ (K .second .reading-takes ts ws h xs (answer ∙ e)) (w .0) in
           one-read (listIn xs) (s .chain .0) h p _ _
-          (K .second .reading-uses-its-cells ts ws h xs (answer ∙ e) (listIn xs) (s .chain .0) (subst (λ (m : ℕ). Spells xs m (listIn xs)) (sym count) w) (s .chain .1))
+          (K .second .reading-uses-its-cells ts ws h xs (answer ∙ e) (listIn xs) (s .chain .0) (subst (λ (m : ℕ). Spells xs m (listIn xs)) (sym count) w)
+          (s .chain .1))
           (ours-keeps form .second .reading-uses-its-cells ts ws h xs e (listIn xs) (s .chain .0) w (s .chain .1))
 
       go : Dec (readingIn form ts ws h xs .answer ≡ DONE) → ReadAs (readingIn form ts ws h xs) (E .read ts ws h xs)
