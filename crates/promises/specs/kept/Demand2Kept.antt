@@ -43,7 +43,8 @@ use Rattle.promises.specs.laws.ReadLaws.{Taken, filledIn, read-ways, tak
 use Rattle.promises.specs.laws.WriteLaws.{Opened, opened-good, opens, listOf-is, judgement, write-ways}
 use Rattle.promises.specs.laws.OneOperation.{one-accepted, effect-stored}
 use Rattle.promises.specs.laws.Invariant.{ran-stored, read-stored, read-alike}
-use Rattle.promises.specs.kept.CellsDo.{sizes-stay, holders-stay, prefix-takes, prefix-list-takes, decap-frees, adv-erases, borrow-shares, erase-erases, inv-turns-cells, cinv-copies-cells, conc-joins-cells, asking-leaves, reading-uses}
+use Rattle.promises.specs.kept.CellsDo.{sizes-stay, holders-stay, prefix-takes, prefix-list-takes, decap-frees, adv-erases, borrow-shares, erase-erases}
+use Rattle.promises.specs.kept.LevelsDo.{inv-turns-cells, cinv-copies-cells, conc-joins-cells, asking-leaves, reading-uses}
 use Rattle.promises.specs.kept.CellsStay.{live-cells-stay}
 use Rattle.promises.specs.kept.SetUpDoes.{set-up-gives}
 use Rattle.promises.specs.laws.TextEnds.{plain-records}
