@@ -8,7 +8,7 @@ use Prim.Native.Nat.{ℕ, zero, suc}
 use lib.Dec.{eqb}
 use lib.ListN.{length, replicate}
 use Rattle.answers.specs.Answers.{DONE}
-use Rattle.answers.specs.Codes.{atomKind, numberKind, nothingKind}
+use Rattle.answers.specs.Codes.{atomKind}
 use Rattle.lists.specs.Lst.{Lst, len, order, extent, onto, reversed}
 use Rattle.pool.specs.Erase.{dropping, visit, step, total, dropped}
 use Rattle.pool.specs.Operations.{read, laid, fresh, pfl, erase, span, load, listFrom, listOf}

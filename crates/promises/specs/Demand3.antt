@@ -11,7 +11,6 @@ use Rattle.lists.specs.Lst.{Lst, extent}
 use Rattle.pool.specs.Tally.{occ, Number}
 use Rattle.pool.specs.Pool.{Pool, countOf, holder, InPool, Walk, Chain, Sound, into, Reaches}
 use Rattle.pool.specs.Script.{ERASE, Operation}
-use Rattle.text.specs.Marks.{listIn}
 use Rattle.calls.specs.Entry.{workWords, shown}
 use Rattle.promises.specs.Engine.{Engine, Reached}
 use Rattle.promises.specs.Rows.{None}

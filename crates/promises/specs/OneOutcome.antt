@@ -8,7 +8,6 @@ use Rattle.answers.specs.Answers.{outcome}
 use Rattle.answers.specs.declared.Outcome.{Outcome}
 use Rattle.text.specs.Text.{verdict, restAt}
 use Rattle.calls.specs.SetUp.{setUpIn}
-use Rattle.setup.specs.SetUp.{setUp, setUpIn}
 use Rattle.calls.specs.Run.{ranIn}
 use Rattle.calls.specs.Read.{readingIn}
 use Rattle.calls.specs.Contracts.{SetsUp, Runs, Reads, Writes}

@@ -6,7 +6,7 @@ use mathlib.Core.Bool.{false, cond}
 use mathlib.Core.List.{List, [], _∷_, _++_}
 use Prim.Native.Nat.{ℕ, _+_, _-_, _*_, _%_, _≤_, _<_}
 use lib.ListN.{length, take, replicate}
-use Rattle.answers.specs.Answers.{UNSOUND, HOLDER, OCCUPIED, NO-ROOM, TEXT-SIZE, END, NOT-A-LIST, ATOM, DEEP, OUTPUT, TABLE-SIZE, WORK-SPACE}
+use Rattle.answers.specs.Answers.{UNSOUND, HOLDER, OCCUPIED, NO-ROOM, TEXT-SIZE, END, NOT-A-LIST, ATOM, DEEP, OUTPUT}
 use Rattle.lists.specs.Lst.{Lst, extent}
 use Rattle.pool.specs.Tally.{occ}
 use Rattle.pool.specs.Pool.{holder, ListAt, frees}

@@ -25,7 +25,6 @@ use Rattle.pool.specs.laws.ByCode.{by-code}
 use Rattle.pool.specs.Script.{PFA, PFL, DECAP, ADV, BORROW, ERASE, CINV, CONC, Operation, Effect, among, effect}
 use Rattle.pool.specs.laws.ScriptLaws.{Allowed, allowed, a-holder, b-holder, some-free}
 use Rattle.calls.specs.Entry.{shown, over}
-use Rattle.calls.specs.Read.{Read as Reading}
 use Rattle.promises.specs.Engine.{ours}
 use Rattle.promises.specs.Grounds.{withB, UsesB}
 use Rattle.promises.specs.Erasing.{Erased}

@@ -32,12 +32,12 @@ use Rattle.calls.specs.Run.{Ran, operations, scriptFault, notRun, ranTo, ranIn}
 use Rattle.calls.specs.Read.{Read as Reading, notRead, readingIn}
 use Rattle.calls.specs.Write.{Write, notWritten, writeList, writingIn}
 use Rattle.promises.specs.Engine.{ours}
-use Rattle.promises.specs.Rows.{Row, row, Answers, First}
-use Rattle.promises.specs.Grounds.{Unsound, setUpRows, entryRows, scriptRows, operationRows, runRows}
+use Rattle.promises.specs.Rows.{Row, row, Answers}
+use Rattle.promises.specs.Grounds.{Unsound, setUpRows, entryRows, scriptRows, operationRows}
 use Rattle.promises.specs.TextGrounds.{readRows, sizeRows, faultRows, writeRows, Has, TooDeep, Spells}
 use Rattle.promises.specs.Demand1.{wordsOf, alone, Stops, end, refused, done, Demand1, SetUpRefusals, RunRefusals, ReadRefusals, WriteRefusals, ScriptsStop, RefusedRun}
-use Rattle.promises.specs.laws.Tells.{tells-eq, tells-lt, tells-not, first, unless-first, Tells, tells-as, rows-before}
-use Rattle.promises.specs.laws.TestsTell.{tells-size, entry-answers, entry-each, script-answers, script-each, size-answers, size-each, tells-unsound, tells-holder, tells-table, tells-work, tells-script, tells-results, tells-text}
+use Rattle.promises.specs.laws.Tells.{tells-eq, tells-lt, tells-not, first, unless-first, Tells, tells-as}
+use Rattle.promises.specs.laws.TestsTell.{tells-size, entry-answers, entry-each, script-answers, script-each, size-answers, size-each, tells-unsound, tells-holder}
 use Rattle.promises.specs.laws.TextOnce.{spells-once, spells-ours}
 use Rattle.promises.specs.laws.OperationRows.{operation-answers}
 use Rattle.promises.specs.laws.TextRows.{scan-answers, check-answers, check-refused}

@@ -8,18 +8,17 @@ use lib.Dec.{eqb, leb}
 use lib.ListN.{length, take, drop}
 use lib.Seq.{take-append-seam}
 use package.borrow.Author.Tests.{le-ltb, lt-leb, eq-eqb, ne-eqb}
-use Rattle.answers.specs.Answers.{DONE, TEXT-SIZE, END}
+use Rattle.answers.specs.Answers.{DONE}
 use Rattle.lists.specs.Lst.{Lst, extent}
 use Rattle.pool.specs.Pool.{Pool, holder, ListAt, frees}
 use Rattle.pool.specs.Operations.{read}
 use Rattle.pool.specs.Script.{performed}
 use Rattle.pool.specs.laws.ScriptLaws.{allowed}
 use Rattle.table.specs.Limits.{holdersTold}
-use Rattle.table.specs.Sizes.{cellsOf}
 use Rattle.text.specs.laws.Accepted.{accepted, accepted-size}
 use Rattle.text.specs.ListText.{textOf, written}
 use Rattle.text.specs.Marks.{listIn}
-use Rattle.text.specs.Text.{Answer, done, refusal, scanned, verdict}
+use Rattle.text.specs.Text.{Answer, done, verdict}
 use Rattle.text.specs.Writing.{usable}
 use Rattle.text.specs.laws.WritingLaws.{writes, written-read, read-written}
 use Rattle.calls.specs.Entry.{workWords, badTable, entryFault, noHolder, shown, unsound, stored, used, over}

@@ -14,8 +14,7 @@ use Rattle.pool.specs.Script.{ERASE, numberKind, Operation, Effect, effect, ref
 use Rattle.pool.specs.Tally.{Number}
 use Rattle.pool.specs.laws.Room.{frees-lives}
 use Rattle.pool.specs.laws.SoundLaws.{sound-held, denoted}
-use Rattle.text.specs.Marks.{listIn}
-use Rattle.calls.specs.Entry.{workWords, badTable, shown, unsound, over, badWork}
+use Rattle.calls.specs.Entry.{workWords, badTable, shown, unsound, over}
 use Rattle.calls.specs.Run.{Ran, operations, ranIn}
 use Rattle.calls.specs.Read.{readingIn}
 use Rattle.promises.specs.Engine.{ours}

@@ -37,7 +37,7 @@ use Rattle.promises.specs.laws.Levels.{nth-occ, nth-other, nth-apart, ch
 use Rattle.promises.specs.laws.CopyCells.{map-same, LiveItems, copy-cells}
 use Rattle.promises.specs.laws.LoadCells.{load-cells}
 use Rattle.promises.specs.laws.TextOnce.{spells-once, spells-ours}
-use Rattle.promises.specs.laws.ReadLaws.{entered-good, read-ways}
+use Rattle.promises.specs.laws.ReadLaws.{reading-good, read-ways}
 use Rattle.promises.specs.laws.Invariant.{read-alike, read-stored}
 use Rattle.table.specs.declared.Form.{Form}
 use Rattle.promises.specs.kept.CellsDo.{op, by-op, only, element-is}
@@ -186,7 +186,7 @@ reading-uses form ts ws h xs =
     → ReadIn l fs h (shown form ts) (shown form (r .table)))
     (λ n us d e. absurd (d e))
     (λ t _ l fs w c.
-    let g = entered-good form ts ws h xs (t .entered) in
+    let g = reading-good form ts ws h xs (t .entered) in
     let below = leb-false (holdersTold form ts) h (t .entered .held) in
     let same-list : listIn xs ≡ l = spells-once xs _ _ (listIn xs) l (spells-ours xs (t .right)) w .1 in
     subst (λ (q : Pool). ReadIn l fs h (shown form ts) q) (sym (read-stored form t .shows))

@@ -28,7 +28,7 @@ use Rattle.text.specs.Limits.{recordBytes, textMost}
 use Rattle.text.specs.Text.{badText, atEnd, sizeFault}
 use Rattle.calls.specs.Entry.{badTable, badWork, entryFault, noHolder, shown, unsound}
 use Rattle.calls.specs.Run.{badScript, badResults, scriptFault}
-use Rattle.promises.specs.Grounds.{BadSize, BadTable, BadWork, BadScript, BadResults, Unsound, NoHolder, entryRows, scriptRows, withB, takingFirst, fillingB, takingOne, UsesB, onward, SomeShared, BadCode, BadHolder, Same, Null, Occupied, Shared, Needs, NoRoom}
+use Rattle.promises.specs.Grounds.{BadSize, BadTable, BadWork, BadScript, Unsound, NoHolder, entryRows, scriptRows, withB, takingFirst, fillingB, takingOne, UsesB, onward, SomeShared, BadCode, BadHolder, Same, Null, Occupied, Shared, Needs, NoRoom}
 use Rattle.promises.specs.TextGrounds.{BadText, sizeRows}
 use Rattle.promises.specs.Rows.{Answers}
 use Rattle.promises.specs.laws.Tells.{Tells, tells-eq, tells-le, tells-lt, tells-not, tells-and, tells-or, tells-as, tells-among, first, Each}

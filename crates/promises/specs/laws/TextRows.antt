@@ -11,10 +11,10 @@ use lib.Seq.{take-append-seam}
 use borrow.Author.Tests.{leb-true, leb-false, lt-ltb, le-ltb, eqb-true, eqb-false}
 use Rattle.answers.specs.Answers.{DONE, NOT-A-LIST, ATOM, DEEP}
 use Rattle.answers.specs.laws.Unless.{both-ways}
-use Rattle.text.specs.Limits.{recordBytes, textMost}
+use Rattle.text.specs.Limits.{recordBytes}
 use Rattle.text.specs.Text.{Scan, Step, mark, fault, State, at, refused, taken, Answer, refusal, answer, begin, stepOf, settle, run, scanned, sizeFault, verdict, isOver}
 use Rattle.text.specs.laws.TextLaws.{rests-refused, rests-taken}
-use Rattle.promises.specs.Rows.{First, Answers}
+use Rattle.promises.specs.Rows.{Answers}
 use Rattle.promises.specs.TextGrounds.{along, lastIn, FaultAt, NoFault, Complete, Fine, Faulted, RunsOut, TakesRecords, sizeRows, faultRows, checkRows}
 use Rattle.promises.specs.laws.Tells.{unless-first}
 use Rattle.promises.specs.laws.TestsTell.{size-answers, size-each}

@@ -10,7 +10,7 @@ use Rattle.lists.specs.Lst.{extent}
 use Rattle.pool.specs.Operations.{load, read, listFrom}
 use Rattle.pool.specs.Tally.{Number, start, miss}
 use Rattle.text.specs.Marks.{listIn}
-use Rattle.text.specs.Text.{scanned, verdict}
+use Rattle.text.specs.Text.{scanned, sizeFault, verdict}
 use Rattle.calls.specs.Entry.{shown}
 use Rattle.calls.specs.Read.{readingIn}
 use Rattle.calls.specs.Write.{writingIn}
@@ -37,7 +37,7 @@ null = record72 (40 ∷ 41 ∷ []) 70
 
 -- one answer for every call: a text of 0 bytes has another than the null list
 pub always-answers : (n : ℕ) → CheckRefusals (alwaysAnswers n) → ⊥
-unfolding verdict scanned
+unfolding sizeFault verdict scanned
 always-answers n d =
     let a : n ≡ 14 = one-answer (checkRows []) _ _ (d []) (demand1 Four .check-refusals []) in
     let b : n ≡ 0 = one-answer (checkRows null) _ _ (d null) (demand1 Four .check-refusals null) in
@@ -45,7 +45,7 @@ always-answers n d =
 
 -- twelve zeros are 16
 pub counts-no-digits-done : CheckRefusals countsNoDigits → ⊥
-unfolding verdict scanned runUncounted
+unfolding sizeFault verdict scanned runUncounted
 counts-no-digits-done d =
     let xs = record72 (40 ∷ (replicate 12 48 ++ (41 ∷ []))) 58 in
     let e : _≡_ {A = ℕ} 0 16 = one-answer (checkRows xs) _ _ (d xs) (demand1 Four .check-refusals xs) in
@@ -56,7 +56,7 @@ abbrev full : List ℕ
 full = readsOver .run one (zeros 2) (prefix 0 5) (zeros 2) .table
 
 pub reads-over : ReadRefusals Four readsOver → ⊥
-unfolding computed readingIn verdict scanned
+unfolding computed readingIn sizeFault verdict scanned
 reads-over d =
     let e : _≡_ {A = ℕ} 0 10 = one-answer (readRows Four full (zeros 2) 0 null) _ _ (d full (zeros 2) 0 null)
     (demand1 Four .read-refusals full (zeros 2) 0 null) in
@@ -71,12 +71,12 @@ writes-what-fits d =
 
 -- one cell is free, and (1) needs one
 pub keeps-one-back : NoRoomToRead Four keepsOneBack → ⊥
-unfolding computed readingIn verdict scanned listIn extent load read
+unfolding computed readingIn sizeFault verdict scanned listIn extent load read
 keeps-one-back d =
     let xs = record72 (40 ∷ 49 ∷ 41 ∷ []) 69 in
     let (n, _) = first-none (checkRows xs) (λ m. m ≡ DONE) DONE
     ((λ z. omega arith), ((λ z. omega arith), ((λ z. omega arith), ((λ z. omega arith), ((λ z. omega arith), tt))))) (demand1 Four .check-refusals xs) in
-    let k : Number (Used (shown Four one)) 1 0 = miss (none-used (shown Four one) refl 1 (λ z. omega arith)) start in
-    let l = d one (zeros 2) 0 xs 0 72 (listIn xs) (inl (made (zeros 70) 1 refl)) (λ h. omega arith) (λ h. omega arith) (n .0, (n .1 .0, tt)) refl
+    let k : Number (Used (shown Four one)) 1 0 = miss (none-used (shown Four one) 64 refl 1 (λ z. omega arith)) start in
+    let l = d one (zeros 2) 0 xs 0 72 (listIn xs) (inl (made (zeros 70) 1 64 refl)) (λ h. omega arith) (λ h. omega arith) (n .0, (n .1 .0, tt)) refl
     (n .1 .1) k (spells-ours xs refl) .0 refl in
     omega (arith, l)

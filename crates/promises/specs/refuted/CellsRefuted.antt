@@ -115,5 +115,5 @@ unfolding computed
 joins-to-no-list d =
     let ss = prefix 0 5 ++ (BORROW ∷ 0 ∷ 1 ∷ 0 ∷ CONC ∷ 0 ∷ 0 ∷ 0 ∷ []) in
     let t = after joinsItself ss in
-    let (l, w) = d t (ranOn (zeros 4) ss (zeros 6) (made (zeros 74) 2 refl)) 1 in
+    let (l, w) = d t (ranOn (zeros 4) ss (zeros 6) (made (zeros 74) 2 64 refl)) 1 in
     no-list (shown Four t .cells) 1 (λ z. omega arith) refl l w

@@ -12,7 +12,6 @@ use Rattle.pool.specs.Script.{PFL, BORROW, ERASE, Operation}
 use Rattle.text.specs.Marks.{listIn}
 use Rattle.text.specs.Text.{scanned, sizeFault, verdict}
 use Rattle.calls.specs.SetUp.{setUp}
-use Rattle.setup.specs.SetUp.{setUp}
 use Rattle.calls.specs.Entry.{shown}
 use Rattle.calls.specs.Read.{readingIn}
 use Rattle.calls.specs.Write.{writingIn}

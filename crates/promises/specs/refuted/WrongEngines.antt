@@ -40,7 +40,7 @@ alwaysRefuses = record {
 -- has one answer, n, for every call, and does nothing
 abbrev pub alwaysAnswers : ℕ → Engine
 alwaysAnswers n = record {
-  setUp = λ ts k. record { answer = n; table = ts };
+  setUp = λ ts k h. record { answer = n; table = ts };
   run = λ ts ws ss rs. notRun n ts ws rs;
   read = λ ts ws h xs. notRead n ts ws;
   write = λ ts ws h out. notWritten n ws out;

@@ -62,7 +62,7 @@ rows-refusal : (form : Form) → (ts : List ℕ) (o : Operation) (n : ℕ) → G
 rows-refusal form ts o n g a = one-answer (operationRows (shown form ts) o) (refusal (shown form ts) o) n (operation-answers (shown form ts) o (g .sound)) a
 
 -- and our run of it alone
-done-alone : (form : Form) (ts ws : List ℕ) (o : Operation) → Good form ts → badWork form ts ws ≡ false → refusal (shown form ts) o ≡ DONE
+done-alone : (form : Form) (ts ws : List ℕ) (o : Operation) → Good form ts → entryFault workWords form ts (length ws) ≡ DONE → refusal (shown form ts) o ≡ DONE
     → ranIn form ts ws (wordsOf o) zeros .answer ≡ DONE
 unfolding operations
 done-alone form ts ws o g w e = ap (λ (r : Ran). r .answer) (runs form ts ws (wordsOf o) zeros (one-passes form ts ws o g w))

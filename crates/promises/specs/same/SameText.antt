@@ -16,7 +16,7 @@ use Rattle.promises.specs.TextGrounds.{Spells, readRows, checkRows}
 use Rattle.promises.specs.Keeps.{Keeps, ours-keeps}
 use Rattle.promises.specs.OneOutcome.{one-answer}
 use Rattle.promises.specs.laws.Tables.{Good}
-use Rattle.promises.specs.laws.ReadLaws.{entered-good, read-ways}
+use Rattle.promises.specs.laws.ReadLaws.{reading-good, read-ways}
 use Rattle.promises.specs.laws.Invariant.{read-good}
 use Rattle.promises.specs.laws.TextOnce.{takes-once, spells-ours}
 use Rattle.promises.specs.same.OnePool.{one-read, same-table}
@@ -28,14 +28,14 @@ use Rattle.table.specs.declared.Form.{Form}
 module _ (form : Form) (ts ws : List ℕ) (h : ℕ) (xs : List ℕ) where
   taken-sound : readingIn form ts ws h xs .answer ≡ DONE → Sound (shown form ts)
   taken-sound = read-ways form ts ws h xs (λ (r : Reading). r .answer ≡ DONE → Sound (shown form ts)) (λ n us d e. absurd (d e))
-      (λ t e. entered-good form ts ws h xs (t .entered) .sound)
+      (λ t e. reading-good form ts ws h xs (t .entered) .sound)
 
   taken-good : readingIn form ts ws h xs .answer ≡ DONE → Good form (readingIn form ts ws h xs .table)
   taken-good e = read-good form ts ws h xs (good-before e)
     where
       good-before : readingIn form ts ws h xs .answer ≡ DONE → Good form ts
       good-before = read-ways form ts ws h xs (λ (r : Reading). r .answer ≡ DONE → Good form ts) (λ n us d e. absurd (d e))
-          (λ t e. entered-good form ts ws h xs (t .entered))
+          (λ t e. reading-good form ts ws h xs (t .entered))
 
   taken-spells : readingIn form ts ws h xs .answer ≡ DONE → Spells xs (readingIn form ts ws h xs .count) (listIn xs)
   taken-spells = read-ways form ts ws h xs (λ (r : Reading). r .answer ≡ DONE → Spells xs (r .count) (listIn xs)) (λ n us d e. absurd (d e))
