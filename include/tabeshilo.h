@@ -301,6 +301,17 @@ tab_outcome tab_write(const uint32_t *table, size_t table_words, uint32_t *work,
 tab_outcome tab_check(const uint8_t *text, size_t bytes);
 
 /*
+ * Tells where in a text the records after its first list begin, and changes nothing: the next list, if any, starts at
+ * text + tab_rest(text, bytes) and has the bytes that are left.
+ *
+ * Returns the bytes that tab_check counts, where it answers TAB_DONE. Where it refuses there is no rest, and bytes is
+ * returned: nothing is left there.
+ *
+ * Cost and stack: as tab_check.
+ */
+size_t tab_rest(const uint8_t *text, size_t bytes);
+
+/*
  * Helpers that are in this header alone; the archive has no name for them.
  *
  * The free cells of a table, met along the free chain; of a table that is not sound the cells up to where the chain leaves

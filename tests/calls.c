@@ -10,8 +10,8 @@
 #include "reference.h"
 #include "texts.h"
 
-enum { SET_UP, RUN, READ, WRITE, CHECK, CALLS };
-static const char *const call_name[CALLS] = {"set_up", "run", "read", "write", "check"};
+enum { SET_UP, RUN, READ, WRITE, CHECK, REST, CALLS };
+static const char *const call_name[CALLS] = {"set_up", "run", "read", "write", "check", "rest"};
 
 lent table, work, script, results, in, out;
 unsigned long long seed = 1, this_case, different;
@@ -135,6 +135,19 @@ tab_outcome call_check(size_t bytes) {
     return should;
 }
 
+/* A place, told as an outcome: 1 where nothing is left behind it, and the place. */
+static tab_outcome at_place(size_t place, size_t bytes) {
+    return (tab_outcome){place == bytes, place > UINT32_MAX ? UINT32_MAX : (uint32_t)place};
+}
+
+size_t call_rest(size_t bytes) {
+    begin(REST);
+    lend(&in, bytes);
+    size_t should = ref_rest(in.own, bytes);
+    compare(NULL, 0, at_place(tab_rest(in.at, bytes), bytes), at_place(should, bytes), (lent *const[]){&in}, 1);
+    return should;
+}
+
 void calls_start(void) {
     lent_make(&table, "table", 4, 16100);
     lent_make(&work, "work", 4, 8100);
@@ -161,6 +174,7 @@ static const unsigned answers[CALLS] = {
              SET(17),
     [WRITE] = SET(0) | SET(1) | SET(2) | SET(5) | SET(7) | SET(17) | SET(18),
     [CHECK] = SET(0) | SET(13) | SET(14) | SET(15) | SET(16) | SET(17),
+    [REST] = SET(0) | SET(1),
 };
 
 /* The answers that can refuse each operation. */

@@ -29,6 +29,7 @@ tab_outcome call_run(size_t table_words, size_t work_words, size_t script_words,
 tab_outcome call_read(size_t table_words, size_t work_words, uint32_t holder, size_t bytes);
 tab_outcome call_write(size_t table_words, size_t work_words, uint32_t holder, size_t room);
 tab_outcome call_check(size_t bytes);
+size_t call_rest(size_t bytes);
 
 /* One line: the calls made, by call and answer. */
 void print_counts(void);

@@ -176,6 +176,7 @@ static void story_check(void) {
     make_text(&x, chance(1));
     memcpy(in.own, x.byte, x.bytes);
     call_check(x.bytes);
+    call_rest(x.bytes);
 }
 
 static void story_set_up(void) {

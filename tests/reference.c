@@ -528,3 +528,9 @@ tab_outcome ref_check(const uint8_t *text, size_t bytes) {
     if (fault) return outcome(fault, 0);
     return outcome(0, taken);
 }
+
+/* The rest begins behind the records of the first list; without one, at the end. */
+size_t ref_rest(const uint8_t *text, size_t bytes) {
+    tab_outcome first = ref_check(text, bytes);
+    return first.answer == 0 ? first.count : bytes;
+}

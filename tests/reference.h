@@ -1,4 +1,4 @@
-/* The five calls once more, in plain C and from the rules alone: reference.c has them. */
+/* The six calls once more, in plain C and from the rules alone: reference.c has them. */
 #ifndef REFERENCE_H
 #define REFERENCE_H
 
@@ -12,6 +12,7 @@ tab_outcome ref_read(uint32_t *table, size_t table_words, uint32_t *work, size_t
 tab_outcome ref_write(const uint32_t *table, size_t table_words, uint32_t *work, size_t work_words, uint32_t holder,
                       uint8_t *out, size_t room);
 tab_outcome ref_check(const uint8_t *text, size_t bytes);
+size_t ref_rest(const uint8_t *text, size_t bytes);
 
 /* For making scripts: takes a sound table, then one operation after the other; gives the answer, 0 if it was done. */
 void ref_open(const uint32_t *table);

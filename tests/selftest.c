@@ -19,6 +19,7 @@
 #define ref_read tab_read
 #define ref_write tab_write
 #define ref_check tab_check
+#define ref_rest tab_rest
 #else
 #define SUBJECT "reference"
 #endif
@@ -204,6 +205,10 @@ static void text_cases(void) {
     record("(1)");
     memset(records + 72, '!', 72);
     is("later records are not looked at", ref_check(records, 144).count, 72);
+    is("the rest is the later record", (long)ref_rest(records, 144), 72);
+    is("no rest behind the last list", (long)ref_rest(records, 72), 72);
+    is("no rest of a wrong size", (long)ref_rest(records, 71), 71);
+    is("no rest of nothing", (long)ref_rest(records, 0), 0);
 }
 
 static void pool_cases(void) {

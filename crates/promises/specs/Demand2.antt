@@ -1,5 +1,6 @@
--- Demand 2: setting up leaves document 01's new pool; after whatever is done the holders have the lists of the report's machine, however the
--- cells are shared, in the cells that document 01 names; reading and writing keep to the text form, and each undoes the other.
+-- Demand 2: setting up leaves document 01's new pool; after whatever is done the holders have the lists of the report's
+-- machine, however the cells are shared, in the cells that document 01 names; reading and writing keep to the text
+-- form, and each undoes the other.
 use mathlib.Core.Path.{_≡_}
 use mathlib.Core.Logic.{_≢_}
 use mathlib.Core.List.{List, _++_}
@@ -50,7 +51,8 @@ pub record NewPool (n h : ℕ) (p : Pool) : Type 0 where
   pub next : (i : ℕ) → 1 ≤ i → i < n → nextOf (p .cells) i ≡ i + 1
   pub last : nextOf (p .cells) n ≡ 0
   pub null : (k : ℕ) → k < h → holder p k ≡ 0
-  pub empty : (i : ℕ) → 1 ≤ i → i ≤ n → (kindOf (p .cells) i ≡ 0) × (elemOf (p .cells) i ≡ 0) × (countOf (p .cells) i ≡ 0)
+  pub empty : (i : ℕ) → 1 ≤ i → i ≤ n → (kindOf (p .cells) i ≡ 0) × (elemOf (p .cells) i ≡ 0)
+      × (countOf (p .cells) i ≡ 0)
 
 -- words that tell n cells and h holders, and show such a pool
 pub record NewTable (form : Form) (n h : ℕ) (us : List ℕ) : Type 0 where
@@ -86,20 +88,23 @@ ScriptsGive form E =
 abbrev pub ReadingGives : (form : Form) → Engine → Type 0
 ReadingGives form E =
     (ts ws : List ℕ) (h : ℕ) (xs : List ℕ) (m : Lists) → Holds form ts m → let r = E .read ts ws h xs in
-    r .answer ≡ DONE → (l : Lst) × (t : List ℕ) × Records xs (r .count) t × (textOf l ≡ plain t) × Holds form (r .table) (assign m h l)
+    r .answer ≡ DONE → (l : Lst) × (t : List ℕ) × Records xs (r .count) t × (textOf l ≡ plain t)
+    × Holds form (r .table) (assign m h l)
 
 abbrev pub CheckingGives : Engine → Type 0
-CheckingGives E = (xs : List ℕ) → let r = E .check xs in r .no ≡ DONE → (l : Lst) × (t : List ℕ) × Records xs (r .taken) t × (textOf l ≡ plain t)
+CheckingGives E = (xs : List ℕ) → let r = E .check xs in r .no ≡ DONE → (l : Lst) × (t : List ℕ)
+    × Records xs (r .taken) t × (textOf l ≡ plain t)
 
 -- both take the first list's records and no more
 abbrev pub CheckingTakes : Engine → Type 0
 CheckingTakes E = (xs : List ℕ) → let r = E .check xs in r .no ≡ DONE → TakesRecords xs (r .taken)
 
 abbrev pub ReadingTakes : Engine → Type 0
-ReadingTakes E = (ts ws : List ℕ) (h : ℕ) (xs : List ℕ) → let r = E .read ts ws h xs in r .answer ≡ DONE → TakesRecords xs (r .count)
+ReadingTakes E = (ts ws : List ℕ) (h : ℕ) (xs : List ℕ) → let r = E .read ts ws h xs in r .answer ≡ DONE
+    → TakesRecords xs (r .count)
 
--- the further call hands back what stands behind the records that the check takes, and where it refuses the empty part at
--- the end
+-- the further call hands back what stands behind the records that the check takes, and where it refuses the empty part
+-- at the end
 abbrev pub RestGives : Engine → Type 0
 RestGives E =
     (xs : List ℕ) → let r = E .check xs in
@@ -114,9 +119,11 @@ WritingGives form E =
 -- a list that is written is read again as itself, if the output takes its text and the pool has its cells
 abbrev pub WrittenReadsBack : (form : Form) → Engine → Type 0
 WrittenReadsBack form E =
-    (ts ws out us vs : List ℕ) (h k : ℕ) (l : Lst) → Words ts → Ready form ts ws → h < length (shown form ts .holders) → Has form ts h l
+    (ts ws out us vs : List ℕ) (h k : ℕ) (l : Lst) → Words ts → Ready form ts ws
+    → h < length (shown form ts .holders) → Has form ts h l
     → order l ≤ levels → length (textOf l) ≤ usable (length out)
-    → Ready form us vs → k < length (shown form us .holders) → holder (shown form us) k ≡ 0 → extent l ≤ frees (shown form us .cells)
+    → Ready form us vs → k < length (shown form us .holders) → holder (shown form us) k ≡ 0
+    → extent l ≤ frees (shown form us .cells)
     → let w = E .write ts ws h out in
     let r = E .read us vs k (take (w .count) (w .output)) in
     (w .answer ≡ DONE) × (r .answer ≡ DONE) × (r .count ≡ w .count) × Has form (r .table) k l

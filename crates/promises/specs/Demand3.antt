@@ -1,5 +1,5 @@
--- Demand 3: of all tables that an engine's own calls can make, counts and arrows, no rings, free cells and reached ones; and of every sound
--- table, what ERASE frees and says, and where there is no room.
+-- Demand 3: of all tables that an engine's own calls can make, counts and arrows, no rings, free cells and reached
+-- ones; and of every sound table, what ERASE frees and says, and where there is no room.
 use mathlib.Core.Path.{_≡_}
 use mathlib.Core.Logic.{_≢_, _⊎_, _↔_}
 use mathlib.Core.List.{List, [], _∷_}
@@ -40,7 +40,8 @@ abbrev pub erasing : ℕ → ℕ → ℕ → List ℕ
 erasing a b v = ERASE ∷ a ∷ b ∷ v ∷ []
 
 abbrev pub CountsAreArrows : (form : Form) → Engine → Type 0
-CountsAreArrows form E = (ts : List ℕ) → Reached E ts → (c : ℕ) → InPool (shown form ts .cells) c → countOf (shown form ts .cells) c ≡ arrows (shown form ts) c
+CountsAreArrows form E = (ts : List ℕ) → Reached E ts → (c : ℕ) → InPool (shown form ts .cells) c
+    → countOf (shown form ts .cells) c ≡ arrows (shown form ts) c
 
 abbrev pub NoListContainsItself : (form : Form) → Engine → Type 0
 NoListContainsItself form E = (ts : List ℕ) → Reached E ts → (c n : ℕ) → Walk (shown form ts .cells) (suc n) c c → ⊥
@@ -50,31 +51,36 @@ abbrev pub HoldersHaveLists : (form : Form) → Engine → Type 0
 HoldersHaveLists form E = (ts : List ℕ) → Reached E ts → (h : ℕ) → (l : Lst) × Has form ts h l
 
 abbrev pub FreeOrReached : (form : Form) → Engine → Type 0
-FreeOrReached form E = (ts : List ℕ) → Reached E ts → (c : ℕ) → InPool (shown form ts .cells) c → Free (shown form ts) c ⊎ Used (shown form ts) c
+FreeOrReached form E = (ts : List ℕ) → Reached E ts → (c : ℕ) → InPool (shown form ts .cells) c
+    → Free (shown form ts) c ⊎ Used (shown form ts) c
 
 abbrev pub NeverBoth : (form : Form) → Engine → Type 0
-NeverBoth form E = (ts : List ℕ) → Reached E ts → (c : ℕ) → InPool (shown form ts .cells) c → Free (shown form ts) c → Used (shown form ts) c → ⊥
+NeverBoth form E = (ts : List ℕ) → Reached E ts → (c : ℕ) → InPool (shown form ts .cells) c
+    → Free (shown form ts) c → Used (shown form ts) c → ⊥
 
 -- what becomes free with an ERASE that is done: the cells that only this holder reached; and its number counts them
 abbrev pub EraseFrees : (form : Form) → Engine → Type 0
 EraseFrees form E =
     (ts ws rs : List ℕ) (a b v : ℕ) → let r = E .run ts ws (erasing a b v) rs in
-    r .answer ≡ DONE → (c : ℕ) → InPool (shown form ts .cells) c → ((Free (shown form ts) c → ⊥) × Free (shown form (r .table)) c) ↔ OnlyBy (shown form ts) a c
+    r .answer ≡ DONE → (c : ℕ) → InPool (shown form ts .cells) c
+    → ((Free (shown form ts) c → ⊥) × Free (shown form (r .table)) c) ↔ OnlyBy (shown form ts) a c
 
 abbrev pub EraseCounts : (form : Form) → Engine → Type 0
 EraseCounts form E =
     (ts ws rs : List ℕ) (a b v : ℕ) → let r = E .run ts ws (erasing a b v) rs in
-    r .answer ≡ DONE → (getD (r .results) 0 0 ≡ numberKind) × Number (OnlyBy (shown form ts) a) (length (shown form ts .cells)) (getD (r .results) 1 0)
+    r .answer ≡ DONE → (getD (r .results) 0 0 ≡ numberKind)
+    × Number (OnlyBy (shown form ts) a) (length (shown form ts .cells)) (getD (r .results) 1 0)
 
 -- a table that the engine's calls can make, or any sound one of a right size
 abbrev pub Lent : (form : Form) → Engine → List ℕ → Type 0
 Lent form E ts = Reached E ts ⊎ ((BadTable form ts → ⊥) × Sound (shown form ts))
 
--- where all rows before it are passed, NO ROOM tells that reached and needed cells are together more than there are; the
--- cells reached can be counted in any pool, so that is no promise of an engine (in a sound one `number-used` does)
+-- where all rows before it are passed, NO ROOM tells that reached and needed cells are together more than there are;
+-- the cells reached can be counted in any pool, so that is no promise of an engine (in a sound one `number-used` does)
 abbrev pub NoRoomToPerform : (form : Form) → Engine → Type 0
 NoRoomToPerform form E =
-    (ts ws rs : List ℕ) (o : Operation) (k n : ℕ) → Lent form E ts → (BadWork workWords ts ws → ⊥) → resultWords ≤ length rs → None (beforeRoom (shown form ts) o)
+    (ts ws rs : List ℕ) (o : Operation) (k n : ℕ) → Lent form E ts → (BadWork workWords ts ws → ⊥) → resultWords ≤ length rs
+    → None (beforeRoom (shown form ts) o)
     → Number (Used (shown form ts)) (length (shown form ts .cells)) k → Needs (shown form ts) o n
     → (E .run ts ws (wordsOf o) rs .answer ≡ NO-ROOM) ↔ (length (shown form ts .cells) < k + n)
 

@@ -26,7 +26,14 @@ pub record Engine : Type 0 where
   pub rest : List ℕ → ℕ
 
 abbrev pub ours : (form : Form) → Engine
-ours form = record { setUp = setUpIn form; run = ranIn form; read = readingIn form; write = writingIn form; check = verdict; rest = restAt }
+ours form = record {
+  setUp = setUpIn form;
+  run = ranIn form;
+  read = readingIn form;
+  write = writingIn form;
+  check = verdict;
+  rest = restAt;
+}
 
 -- the tables that an engine's calls can make, from a set-up that is done on, whatever the arguments and the answers
 pub data Reached (E : Engine) : List ℕ → Type 0 where

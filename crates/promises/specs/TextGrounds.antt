@@ -1,5 +1,5 @@
--- When each answer about text is given, in document 01's words: what the text form allows after the characters so far, and the rows of the
--- text check, of reading and of writing.
+-- When each answer about text is given, in document 01's words: what the text form allows after the characters so far,
+-- and the rows of the text check, of reading and of writing.
 use mathlib.Core.Path.{_≡_}
 use mathlib.Core.Logic.{_≢_, _⊎_}
 use mathlib.Core.Bool.{false, cond}
@@ -48,8 +48,8 @@ valueIn us = along (λ v b. cond (isDigit b) (v * 8 + (b - 48)) 0) 0 us
 abbrev pub Octal : ℕ → Type 0
 Octal b = (48 ≤ b) × (b ≤ 55)
 
--- what may stand after the character c where d levels are open: "(" at the start; an element or ")" after "("; an element after ",";
--- a digit, ")" or "," in an atom; ")" or "," after an inner list; a blank after the last ")"
+-- what may stand after the character c where d levels are open: "(" at the start; an element or ")" after "("; an
+-- element after ","; a digit, ")" or "," in an atom; ")" or "," after an inner list; a blank after the last ")"
 abbrev pub Follows : ℕ → ℕ → ℕ → Type 0
 Follows c d b =
     ((c ≡ 0) × (b ≡ 40))
@@ -91,7 +91,8 @@ Fine us = (vs : List ℕ) (c : ℕ) (ws : List ℕ) → us ≡ vs ++ (c ∷ ws) 
 
 -- the earliest fault of a text is n
 abbrev pub Faulted : List ℕ → ℕ → Type 0
-Faulted xs n = (us : List ℕ) × (b : ℕ) × (later : List ℕ) × (xs ≡ us ++ (b ∷ later)) × Fine us × (Complete us → ⊥) × FaultAt us b n
+Faulted xs n = (us : List ℕ) × (b : ℕ) × (later : List ℕ) × (xs ≡ us ++ (b ∷ later)) × Fine us × (Complete us → ⊥)
+    × FaultAt us b n
 
 abbrev pub RunsOut : List ℕ → Type 0
 RunsOut xs = Fine xs × (Complete xs → ⊥)
@@ -104,7 +105,8 @@ TakesRecords xs m = (m ≤ length xs) × Fine (take m xs) × Complete (take m xs
 abbrev pub plain : List ℕ → List ℕ
 plain t = bare false t
 
--- m bytes of a text, whole records: the characters t of a list, with no blank among them, and fewer than a record of blanks behind them
+-- m bytes of a text, whole records: the characters t of a list, with no blank among them, and fewer than a record of
+-- blanks behind them
 pub record Records (xs : List ℕ) (m : ℕ) (t : List ℕ) : Type 0 where
   pub blanks : ℕ
   pub bytes : take m xs ≡ t ++ replicate blanks 32
@@ -118,7 +120,8 @@ abbrev pub Spells : List ℕ → ℕ → Lst → Type 0
 Spells xs m l = TakesRecords xs m × ((t : List ℕ) × Records xs m t × (textOf l ≡ plain t))
 
 abbrev pub faultRows : List ℕ → List Row
-faultRows xs = row NOT-A-LIST (Faulted xs NOT-A-LIST ⊎ RunsOut xs) ∷ row ATOM (Faulted xs ATOM) ∷ row DEEP (Faulted xs DEEP) ∷ []
+faultRows xs = row NOT-A-LIST (Faulted xs NOT-A-LIST ⊎ RunsOut xs) ∷ row ATOM (Faulted xs ATOM) ∷ row DEEP
+    (Faulted xs DEEP) ∷ []
 
 abbrev pub sizeRows : List ℕ → List Row
 sizeRows xs = row TEXT-SIZE (BadText xs) ∷ row END (AtEnd xs) ∷ []

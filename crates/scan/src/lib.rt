@@ -140,3 +140,11 @@ pub fn rest(text: &[u8]) -> &[u8]
     let start = rest_start(text);
     &text[start..]
 }
+
+// Where that part begins, told by the part itself: so many bytes of the text stand before it.
+pub fn rest_at(text: &[u8]) -> usize
+    ensures { λ r. ⌜ r ≡ restAt (now (text .entry)) ⌝ }
+{
+    let left = rest(text);
+    text.len() - left.len()
+}
