@@ -78,7 +78,7 @@ PrefixListTakesHead form E =
 
 -- DECAP: the first cell's arrows become those of the holders, and the cell goes to the head of the free chain; it keeps
 -- T and E
-pub record Beheaded (a b : ℕ) (p q : Pool) : Type 0 where
+pub record Decapped (a b : ℕ) (p q : Pool) : Type 0 where
   pub tail : holder q a ≡ nextOf (p .cells) (holder p a)
   pub element : holder q b ≡ sublist (p .cells) (holder p a)
   pub free : q .free ≡ holder p a
@@ -86,7 +86,7 @@ pub record Beheaded (a b : ℕ) (p q : Pool) : Type 0 where
       Only x (record { kind = kindOf (p .cells) x; elem = elemOf (p .cells) x; count = 0; next = p .free }) p q
 
 abbrev pub DecapFreesToHead : (form : Form) → Engine → Type 0
-DecapFreesToHead form E = Makes form E (λ o p q. o .code ≡ DECAP → Beheaded (o .a) (o .b) p q)
+DecapFreesToHead form E = Makes form E (λ o p q. o .code ≡ DECAP → Decapped (o .a) (o .b) p q)
 
 -- ADV: element and tail are borrowed, then the old list is erased
 pub record Advanced (a b : ℕ) (p q : Pool) : Type 0 where

@@ -79,8 +79,8 @@ Lent form E ts = Reached E ts ⊎ ((BadTable form ts → ⊥) × Sound (shown fo
 -- the cells reached can be counted in any pool, so that is no promise of an engine (in a sound one `number-used` does)
 abbrev pub NoRoomToPerform : (form : Form) → Engine → Type 0
 NoRoomToPerform form E =
-    (ts ws rs : List ℕ) (o : Operation) (k n : ℕ) → Lent form E ts → (BadWork workWords ts ws → ⊥) → resultWords ≤ length rs
-    → None (beforeRoom (shown form ts) o)
+    (ts ws rs : List ℕ) (o : Operation) (k n : ℕ) → Lent form E ts → (BadWork workWords ts ws → ⊥)
+    → resultWords ≤ length rs → None (beforeRoom (shown form ts) o)
     → Number (Used (shown form ts)) (length (shown form ts .cells)) k → Needs (shown form ts) o n
     → (E .run ts ws (wordsOf o) rs .answer ≡ NO-ROOM) ↔ (length (shown form ts .cells) < k + n)
 

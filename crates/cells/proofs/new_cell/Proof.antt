@@ -16,7 +16,8 @@ next-of-requires c κs = search needs
 
 set-free-requires : tie.Need-set-free-requires
 set-free-requires c κs =
-    let start = c .before .before .before .before .before .before in
+    let after-free-head = c .before .before .before in
+    let start = after-free-head .before .before .before in
     (start .pre .0, rw (c .before .next-of .ensures .0, c .before .before .before .free-head .ensures .0) (start .pre .1 .0 .next))
 
 set-cell-requires : tie.Need-set-cell-requires
@@ -27,7 +28,8 @@ same-length c = search needs
 
 returns : tie.Need-returns
 returns c =
-    let after-set-free = c .before .before .before .before .before .before in
+    let after-t = c .before .before .before .before .before in
+    let after-set-free = after-t .before in
     let after-next-of = after-set-free .before .before in
     let a = after-next-of .before .before .before .before .before .args in
     let x = after-next-of .before .before .free-head .result in (

@@ -22,7 +22,8 @@ same-length c = search needs
 
 returns : tie.Need-returns
 returns c =
-    let after-set-next = c .before .before .before .before .before .before in
+    let after-t = c .before .before .before .before .before in
+    let after-set-next = after-t .before in
     let a = after-set-next .before .before .before .before .before .args in
     said (after (putFree (a .x)) (after-set-next .set-next .ensures) (c .before .before .set-free .ensures))
     (ap (λ (f : ℕ). putFree (a .x) (putNext (a .x) f (view (a .s) (a .t .now)))) (after-set-next .before .before .free-head .ensures .0))

@@ -28,7 +28,7 @@ use Rattle.calls.specs.Entry.{shown, over}
 use Rattle.promises.specs.Engine.{ours}
 use Rattle.promises.specs.Grounds.{withB, UsesB}
 use Rattle.promises.specs.Erasing.{Erased}
-use Rattle.promises.specs.Cells.{Makes, Sized, SizesStay, HoldersStay, Only, sublist, Lent, Prefixed, PrefixTakesHead, PrefixListTakesHead, Beheaded, DecapFreesToHead, Advanced, AdvErases, Borrowed, BorrowShares, EraseErases}
+use Rattle.promises.specs.Cells.{Makes, Sized, SizesStay, HoldersStay, Only, sublist, Lent, Prefixed, PrefixTakesHead, PrefixListTakesHead, Decapped, DecapFreesToHead, Advanced, AdvErases, Borrowed, BorrowShares, EraseErases}
 use Rattle.promises.specs.laws.Tells.{tells-among}
 use Rattle.promises.specs.laws.OneOperation.{one-accepted, effect-stored}
 use Rattle.promises.specs.laws.FreeCells.{free-zero}
@@ -145,7 +145,7 @@ item-is (suc (suc t)) e l = absurd (omega arith)
 pub element-is : (p : Pool) (x : ℕ) → Sound p → Live (p .cells) x → item (p .cells) x ≡ sublist (p .cells) x
 element-is p x s l = item-is (kindOf (p .cells) x) (elemOf (p .cells) x) (sound-held p s .kinds x l)
 
-decap-beheads : (p : Pool) (o : Operation) → Sound p → Allowed p (op DECAP o) → Beheaded (o .a) (o .b) p (effect p (op DECAP o) .pool)
+decap-beheads : (p : Pool) (o : Operation) → Sound p → Allowed p (op DECAP o) → Decapped (o .a) (o .b) p (effect p (op DECAP o) .pool)
 unfolding effect decap
 decap-beheads p o s h =
     let x = holder p (o .a) in
@@ -161,7 +161,7 @@ decap-beheads p o s h =
     }
 
 pub decap-frees : (form : Form) → DecapFreesToHead form (ours form)
-decap-frees form = by-op form DECAP (λ o p q. Beheaded (o .a) (o .b) p q) decap-beheads
+decap-frees form = by-op form DECAP (λ o p q. Decapped (o .a) (o .b) p q) decap-beheads
 
 -- two lists borrowed one after the other
 lent-both : (cs : List Cell) (x y z : ℕ) → NullOrLive cs x → NullOrLive cs y → x ≡ z → Lent (z ∷ y ∷ []) cs (share (share cs x) y)

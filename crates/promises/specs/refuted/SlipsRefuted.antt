@@ -78,22 +78,22 @@ lowers-behind d =
 
 -- after DECAP one arrow ends at the tail as before, the holder's for the cell's
 
-abbrev beheaded : List ℕ
-beheaded = pair ++ (DECAP ∷ 0 ∷ 1 ∷ 0 ∷ [])
+abbrev decapped : List ℕ
+decapped = pair ++ (DECAP ∷ 0 ∷ 1 ∷ 0 ∷ [])
 
 pub decap-lowers : CountsAreArrows Four decapLowers → ⊥
 unfolding computed
 decap-lowers d =
-    let t = after decapLowers beheaded in
-    let r : Reached decapLowers t = ranOn (zeros 4) beheaded (zeros 6) (made (zeros 74) 2 64 refl) in
+    let t = after decapLowers decapped in
+    let r : Reached decapLowers t = ranOn (zeros 4) decapped (zeros 6) (made (zeros 74) 2 64 refl) in
     let e = d t r 1 (omega arith, omega arith) in
     omega (arith, e)
 
 pub decap-raises : CountsAreArrows Four decapRaises → ⊥
 unfolding computed
 decap-raises d =
-    let t = after decapRaises beheaded in
-    let r : Reached decapRaises t = ranOn (zeros 4) beheaded (zeros 6) (made (zeros 74) 2 64 refl) in
+    let t = after decapRaises decapped in
+    let r : Reached decapRaises t = ranOn (zeros 4) decapped (zeros 6) (made (zeros 74) 2 64 refl) in
     let e = d t r 1 (omega arith, omega arith) in
     omega (arith, e)
 

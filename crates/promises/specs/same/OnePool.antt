@@ -32,7 +32,7 @@ use Rattle.promises.specs.Grounds.{withB, UsesB}
 use Rattle.promises.specs.Demand1.{wordsOf}
 use Rattle.promises.specs.Demand2.{Demand2}
 use Rattle.promises.specs.Erasing.{Erased}
-use Rattle.promises.specs.Cells.{Sized, Only, nth, Lent, Prefixed, Beheaded, Advanced, Borrowed, Turned, Copied, Joined, asking, Laid, ReadIn}
+use Rattle.promises.specs.Cells.{Sized, Only, nth, Lent, Prefixed, Decapped, Advanced, Borrowed, Turned, Copied, Joined, asking, Laid, ReadIn}
 use Rattle.promises.specs.laws.Tells.{tells-among}
 use Rattle.promises.specs.laws.TestsTell.{shown-holders}
 use Rattle.promises.specs.laws.ErasingLaws.{one-end}
@@ -109,8 +109,8 @@ module _ (o : Operation) (p q r : Pool) (f : Framed o p q) (g : Framed o p r) wh
   one-prefixed-list (x, u) (y, v) = equal (with-b (x .head ∙ sym (y .head)) (u ∙ sym v)) (x .free ∙ sym (y .free))
       (alike (λ c _. only-once (x .cells) (y .cells) c))
 
-  pub one-beheaded : Beheaded (o .a) (o .b) p q → Beheaded (o .a) (o .b) p r → q ≡ r
-  one-beheaded x y = equal (with-b (x .tail ∙ sym (y .tail)) (x .element ∙ sym (y .element))) (x .free ∙ sym (y .free))
+  pub one-decapped : Decapped (o .a) (o .b) p q → Decapped (o .a) (o .b) p r → q ≡ r
+  one-decapped x y = equal (with-b (x .tail ∙ sym (y .tail)) (x .element ∙ sym (y .element))) (x .free ∙ sym (y .free))
       (alike (λ c _. only-once (x .cells) (y .cells) c))
 
   pub one-advanced : Advanced (o .a) (o .b) p q → Advanced (o .a) (o .b) p r → q ≡ r
@@ -192,7 +192,7 @@ pub record Does (o : Operation) (p q : Pool) : Type 0 where
   pub framed : Framed o p q
   pub pfa : o .code ≡ PFA → Prefixed 0 (o .v) (o .a) p q
   pub pfl : o .code ≡ PFL → Prefixed 1 (holder p (o .b)) (o .a) p q × (holder q (o .b) ≡ 0)
-  pub decap : o .code ≡ DECAP → Beheaded (o .a) (o .b) p q
+  pub decap : o .code ≡ DECAP → Decapped (o .a) (o .b) p q
   pub adv : o .code ≡ ADV → Advanced (o .a) (o .b) p q
   pub borrow : o .code ≡ BORROW → Borrowed (o .a) (o .b) p q
   pub erase : o .code ≡ ERASE → (holder q (o .a) ≡ 0) × ((n : ℕ) × Erased (q .free) (q .cells) (p .free) (p .cells) (holder p (o .a)) [] n)
@@ -251,7 +251,7 @@ one-pool o p q r s l m x y = go (code-of LENGTH (o .code) l m)
         (x .erase e .1 .1) (y .erase e .1 .1) .0
     go (inr (inr (inr (inr (inr (inr (inl e))))))) = one-borrowed o p q r (x .framed) (y .framed) (x .borrow e) (y .borrow e)
     go (inr (inr (inr (inr (inr (inr (inr (inl e)))))))) = one-advanced o p q r (x .framed) (y .framed) (x .adv e) (y .adv e)
-    go (inr (inr (inr (inr (inr (inr (inr (inr (inl e))))))))) = one-beheaded o p q r (x .framed) (y .framed) (x .decap e) (y .decap e)
+    go (inr (inr (inr (inr (inr (inr (inr (inr (inl e))))))))) = one-decapped o p q r (x .framed) (y .framed) (x .decap e) (y .decap e)
     go (inr (inr (inr (inr (inr (inr (inr (inr (inr (inl e)))))))))) = one-prefixed-list o p q r (x .framed) (y .framed) (x .pfl e) (y .pfl e)
     go (inr (inr (inr (inr (inr (inr (inr (inr (inr (inr (inl e))))))))))) = one-prefixed o p q r (x .framed) (y .framed) (alone PFA refl e) (x .pfa e)
         (y .pfa e)

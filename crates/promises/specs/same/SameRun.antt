@@ -4,10 +4,9 @@ use mathlib.Core.Path.{_≡_, refl, sym, ap, _∙_, subst}
 use mathlib.Core.Logic.{_≢_, inl, inr}
 use mathlib.Core.Bool.{false}
 use mathlib.Core.List.{List, [], _∷_, _++_}
-use Prim.Native.Nat.{ℕ, suc, _*_, _≤_, _<_}
+use Prim.Native.Nat.{ℕ, suc, _≤_, _<_}
 use native.Mathlib.Decide.{ℕ-discrete, decLt}
 use native.Mathlib.Omega.{arith}
-use lib.Dec.{ltb}
 use lib.ListN.{length, getD}
 use borrow.Author.Tests.{eq-eqb, ne-eqb}
 use Rattle.answers.specs.Answers.{DONE}
@@ -17,7 +16,7 @@ use Rattle.pool.specs.laws.EraseLaws.{erases}
 use Rattle.pool.specs.laws.SoundLaws.{denoted}
 use Rattle.pool.specs.Script.{PFA, ERASE, LENGTH, Operation, Effect, badCode, refusal, effect, tellsNumber, performed}
 use Rattle.pool.specs.laws.ScriptLaws.{allowed, effect-sound}
-use Rattle.calls.specs.Entry.{workWords, entryFault, shown, stored, over, badWork}
+use Rattle.calls.specs.Entry.{workWords, entryFault, shown, stored, over}
 use Rattle.calls.specs.laws.EntryLaws.{entry-alike}
 use Rattle.calls.specs.Run.{operations, Ran, ranIn}
 use Rattle.promises.specs.Engine.{Engine, ours}

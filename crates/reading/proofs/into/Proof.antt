@@ -7,9 +7,12 @@ use Rattle.reading.specs.laws.ReadLaws.{Scans, occupied, faulty, no-room
 use Rattle.reading.proofs.into.Statement.{statement}
 use Rattle.reading.proofs.into.Tie as tie
 
-scans : (c : tie.After-scan) → Scans (c .before .before .before .before .before .before .args .s) (c .before .before .before .before .before .before .args .t .now) (c .before .before .before .before .before .before .args .h) (c .before .before .before .before .before .before .args .text .now) (c .scan .result)
+scans : (c : tie.After-scan) →
+    let after-holder-of = c .before .before in
+    Scans (after-holder-of .before .before .before .before .args .s) (after-holder-of .before .before .before .before .args .t .now) (after-holder-of .before .before .before .before .args .h) (after-holder-of .before .before .before .before .args .text .now) (c .scan .result)
 scans c =
-    let start = c .before .before .before .before .before .before in
+    let after-holder-of = c .before .before in
+    let start = after-holder-of .before .before .before .before in
     record { table = start .pre .0; sized = start .pre .1 .1 .1 .1; null = sym (c .before .before .holder-of .ensures .0) ∙ c .before .if1 .left; told = c .scan .ensures }
 
 holder-of-requires : tie.Need-holder-of-requires
@@ -23,7 +26,8 @@ same-length c = search needs
 
 returns : tie.Need-returns
 returns c =
-    let start = c .before .before .before .before .before .before in
+    let after-holder-of = c .before .before in
+    let start = after-holder-of .before .before .before .before in
     λ ws. occupied (start .pre .0) (start .args .h) (start .args .text .now) ws (λ q. c .before .if1 .taken (c .before .before .holder-of .ensures .0 ∙ q)) (c .refused .ensures)
 
 scan-requires : tie.Need-scan-requires
@@ -49,12 +53,16 @@ same-length-3 c = search needs
 
 returns-3 : tie.Need-returns-3
 returns-3 c =
-    let free = c .before .before .before .before .before .before .before .before .before .before .before .pre .1 .1 .1 .0 in
+    let after-scan = c .before .before .before .before .before in
+    let after-holder-of = after-scan .before .before in
+    let free = after-holder-of .before .before .before .before .pre .1 .1 .1 .0 in
     λ ws. no-room (scans (c .before .before .before .before .before)) (c .before .before .before .if2 .left) ws (omega (arith, c .before .if3 .taken, free)) (c .refused3 .ensures)
 
 build-requires : tie.Need-build-requires
 build-requires c κs =
-    let start = c .before .before .before .before .before .before .before .before .before .before .before in
+    let after-scan = c .before .before .before .before .before in
+    let after-holder-of = after-scan .before .before in
+    let start = after-holder-of .before .before .before .before in
     let k = scans (c .before .before .before .before .before) in
     let well = c .before .before .before .if2 .left in
     (start .pre .0, (start .pre .1 .0, (start .pre .1 .1 .0, (taken k well, room k well (omega (arith, c .before .if3 .left, start .pre .1 .1 .1 .0))))))
@@ -67,8 +75,11 @@ same-length-4 c = search needs
 
 returns-4 : tie.Need-returns-4
 returns-4 c =
-    let free = c .before .before .before .before .before .before .before .before .before .before .before .before .before .before .before .pre .1 .1 .1 .0 in
-    λ ws. reads (scans (c .before .before .before .before .before .before .before .before .before)) (c .before .before .before .before .before .before .before .if2 .left) (omega (arith, c .before .before .before .before .before .if3 .left, free)) ws _ (c .before .before .before .build .ensures) (c .done .ensures)
+    let else3 = c .before .before .before .before .before in
+    let after-scan = else3 .before .before .before .before in
+    let after-holder-of = after-scan .before .before in
+    let free = after-holder-of .before .before .before .before .pre .1 .1 .1 .0 in
+    λ ws. reads (scans (after-scan)) (else3 .before .before .if2 .left) (omega (arith, c .before .before .before .before .before .if3 .left, free)) ws _ (c .before .before .before .build .ensures) (c .done .ensures)
 
 pub into-spec : {M : Type 1} → statement M
 into-spec =

@@ -17,7 +17,8 @@ held : (c : tie.Else1) →
 held c = omega (arith, c .if1 .left, c .before .holders .ensures)
 
 sized : (c : tie.Else2) →
-    let start = c .before .before .before .before .before .before .before in
+    let after-holders = c .before .before .before in
+    let start = after-holders .before .before .before .before in
     sizeFault (start .args .text .now) ≡ DONE
 sized c = sym (c .before .size-fault .ensures) ∙ c .if2 .left
 

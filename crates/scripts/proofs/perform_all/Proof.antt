@@ -34,7 +34,10 @@ enum-known-reply : tie.Need-enum-known-reply Inv-loop μ-loop
 enum-known-reply c = search needs
 
 cast-stopped : tie.Need-cast-stopped Inv-loop μ-loop
-cast-stopped c = omega (arith, c .before .before .before .before .before .before .before .loop-test, c .before .before .before .before .before .before .before .before .before .before .before .before .pre .1 .1 .few)
+cast-stopped c =
+    let after-perform-at = c .before .before .before .before .before in
+    let in-loop = after-perform-at .before .before in
+    omega (arith, in-loop .loop-test, in-loop .before .before .before .before .before .pre .1 .1 .few)
 
 stopped-requires : tie.Need-stopped-requires Inv-loop μ-loop
 stopped-requires c κs = search needs
@@ -43,29 +46,42 @@ same-length : tie.Need-same-length Inv-loop μ-loop
 same-length c = search needs
 
 same-length-2 : tie.Need-same-length-2 Inv-loop μ-loop
-same-length-2 c = c .before .before .before .before .before .before .before .before .before .loop .inv .0 .size
+same-length-2 c =
+    let after-table = c .before .before .before .before .before in
+    after-table .before .before .before .before .loop .inv .0 .size
 
 returns : tie.Need-returns Inv-loop μ-loop
 returns c =
-    let g = c .before .before .before .before .before .before .perform-at .ensures in
-    rw (c .stopped .ensures) (refused-at (c .before .before .before .before .before .before .before .before .before .loop .inv .0) (room (c .before .before .before .before .before .before .before .before) .0) (omega (arith, room (c .before .before .before .before .before .before .before .before) .1)) (rw (c .before .before .reply .given .1) at g))
+    let after-table = c .before .before .before .before .before in
+    let g = after-table .before .perform-at .ensures in
+    rw (c .stopped .ensures) (refused-at (after-table .before .before .before .before .loop .inv .0) (room (after-table .before .before .before) .0) (omega (arith, room (after-table .before .before .before) .1)) (rw (c .before .before .reply .given .1) at g))
 
 enum-known-reply-2 : tie.Need-enum-known-reply-2 Inv-loop μ-loop
 enum-known-reply-2 c = search needs
 
 write-at-requires : tie.Need-write-at-requires Inv-loop μ-loop
-write-at-requires c κs = room (c .before .before .before .before .before .before .before .before) .1
+write-at-requires c κs =
+    let after-table = c .before .before .before .before .before in
+    room (after-table .before .before .before) .1
 
 add-i : tie.Need-add-i Inv-loop μ-loop
-add-i c = omega (arith, room (c .before .before .before .before .before .before .before .before .before .before .before) .0)
+add-i c =
+    let after-reply2 = c .before .before .before .before .before in
+    let after-perform-at = after-reply2 .before .before .before .before in
+    omega (arith, room (after-perform-at .before .before) .0)
 
 loop-less : tie.Need-loop-less Inv-loop μ-loop
-loop-less c = omega (arith, c .before .before .before .before .before .before .before .before .before .before .before .loop-test)
+loop-less c =
+    let after-reply2 = c .before .before .before .before .before in
+    let after-perform-at = after-reply2 .before .before .before .before in
+    omega (arith, after-perform-at .before .before .loop-test)
 
 loop-again : tie.Need-loop-again Inv-loop μ-loop
 loop-again c =
-    let g = c .before .before .before .before .before .before .before .before .before .perform-at .ensures in
-    (rw (c .before .before .write-at .ensures) (onward (c .before .before .before .before .before .before .before .before .before .before .before .before .loop .inv .0) (room (c .before .before .before .before .before .before .before .before .before .before .before) .0) (room (c .before .before .before .before .before .before .before .before .before .before .before) .1) (rw (c .before .before .before .before .before .reply2 .given .1) at g)), omega (arith, c .before .before .before .before .before .before .before .before .before .before .before .loop-test))
+    let after-reply2 = c .before .before .before .before .before in
+    let after-perform-at = after-reply2 .before .before .before .before in
+    let g = after-perform-at .perform-at .ensures in
+    (rw (c .before .before .write-at .ensures) (onward (after-perform-at .before .before .before .loop .inv .0) (room (after-perform-at .before .before) .0) (room (after-perform-at .before .before) .1) (rw (c .before .before .before .before .before .reply2 .given .1) at g)), omega (arith, after-perform-at .before .before .loop-test))
 
 cast-done : tie.Need-cast-done Inv-loop μ-loop
 cast-done c = omega (arith, c .before .before .before .before .before .pre .1 .1 .few)
@@ -74,14 +90,17 @@ done-requires : tie.Need-done-requires Inv-loop μ-loop
 done-requires c κs = search needs
 
 same-length-3 : tie.Need-same-length-3 Inv-loop μ-loop
-same-length-3 c = c .before .before .loop .inv .0 .table .sized ∙ sym (c .before .before .before .before .before .before .pre .0 .sized)
+same-length-3 c =
+    let at-loop = c .before .before in
+    c .before .before .loop .inv .0 .table .sized ∙ sym (at-loop .before .before .before .before .pre .0 .sized)
 
 same-length-4 : tie.Need-same-length-4 Inv-loop μ-loop
 same-length-4 c = c .before .before .loop .inv .0 .size
 
 returns-2 : tie.Need-returns-2 Inv-loop μ-loop
 returns-2 c =
-    let c0 = c .before .before .before .before .before .before in
+    let at-loop = c .before .before in
+    let c0 = at-loop .before .before .before .before in
     let l = c .before .before .loop in
     let e : l .i ≡ length (c0 .args .script .now) / 4 = omega (arith, c .before .loop-test, l .inv .1) in
     rw (c .done .ensures, ← e) (all-done (l .inv .0) (omega (arith, e, c0 .pre .1 .1 .whole)) (omega (arith, e, l .inv .0 .size, c0 .pre .1 .1 .room)))

@@ -9,7 +9,8 @@ use Rattle.scripts.proofs.run_form.Tie as tie
 
 entered : (c : tie.After-entry2) →
     let enter = c .before .before in
-    let a = enter .before .before .before .before .before .before .args in
+    let after-slice-known = enter .before .before .before .before .before in
+    let a = after-slice-known .before .args in
     Admitted workWords (a .f) (a .table .now) (length (a .work .now)) (c .entry2 .given .0 .0)
 entered c = admitted _ _ _ _ (c .before .before .enter .ensures) (c .entry2 .given .1)
 
@@ -47,7 +48,8 @@ same-length-4 c = search needs
 
 returns-2 : tie.Need-returns-2
 returns-2 c =
-    let after-run = c .before .before .before .before .before .before in
+    let after-table = c .before .before .before .before .before in
+    let after-run = after-table .before in
     let after-entry = after-run .before .before .before .before .before in
     of-form _ _ _ _ (entered after-entry .form) (after-run .run-open .ensures)
 

@@ -10,7 +10,9 @@ use Rattle.scripts.proofs.run_open.Tie as tie
 
 -- the sizes are right
 fault : (c : tie.Else1) →
-    let start = c .before .before .before .before .before .before .before in
+    let after-script-fault = c .before in
+    let after-slice-known = after-script-fault .before .before .before .before .before in
+    let start = after-slice-known .before in
     scriptFault (start .args .script .now) (start .args .results .now) ≡ DONE
 fault c = sym (c .before .script-fault .ensures) ∙ c .if1 .left
 
@@ -25,7 +27,9 @@ same-length c = search needs
 
 returns : tie.Need-returns
 returns c =
-    let start = c .before .before .before .before .before .before .before .before in
+    let after-script-fault = c .before .before in
+    let after-slice-known = after-script-fault .before .before .before .before .before in
+    let start = after-slice-known .before in
     sizes-refused _ _ _ (start .pre) (c .before .before .script-fault .ensures) (c .before .if1 .taken) (c .refused .ensures)
 
 is-sound-requires : tie.Need-is-sound-requires
@@ -47,15 +51,19 @@ returns-2 : tie.Need-returns-2
 returns-2 c =
     let after-is-sound = c .before .before .before .before in
     let else1 = after-is-sound .before .before .before in
-    let start = else1 .before .before .before .before .before .before .before in
+    let after-script-fault = else1 .before in
+    let after-slice-known = after-script-fault .before .before .before .before .before in
+    let start = after-slice-known .before in
     not-sound _ _ _ (start .pre) (fault else1) (after-is-sound .is-sound .ensures) (c .before .if2 .taken) (c .refused2 .ensures)
 
 perform-all-requires : tie.Need-perform-all-requires
 perform-all-requires c κs =
-    let else2 = c .before .before in
-    let after-is-sound = else2 .before .before .before in
+    let after-is-sound = c .before .before .before .before .before in
     let else1 = after-is-sound .before .before .before in
-    let start = else1 .before .before .before .before .before .before .before in
+    let after-script-fault = else1 .before in
+    let after-slice-known = after-script-fault .before .before .before .before .before in
+    let else2 = c .before .before in
+    let start = after-slice-known .before in
     (start .pre .table, (after-is-sound .is-sound .ensures .sound .0 (not-false _ (else2 .if2 .left)), sizes _ _ (fault else1)))
 
 same-length-5 : tie.Need-same-length-5
@@ -73,7 +81,9 @@ returns-3 c =
     let else2 = after-perform-all .before .before .before in
     let after-is-sound = else2 .before .before .before in
     let else1 = after-is-sound .before .before .before in
-    let start = else1 .before .before .before .before .before .before .before in
+    let after-script-fault = else1 .before in
+    let after-slice-known = after-script-fault .before .before .before .before .before in
+    let start = after-slice-known .before in
     performs-all _ _ _ (start .pre) (fault else1) (after-is-sound .is-sound .ensures) (else2 .if2 .left) (after-perform-all .perform-all .ensures)
 
 pub run-open-spec : {M : Type 1} → statement M

@@ -15,7 +15,8 @@ use Rattle.writing.proofs.write_list.Tie as tie
 
 -- what was measured has room
 fits : (c : tie.Else1) →
-    let a = c .before .before .before .before .before .before .args in
+    let after-usable = c .before .before .before in
+    let a = after-usable .before .before .before .args in
     let n = c .before .before .measure .result .size in
     Fitting (view (a .s) (a .t .now) .cells) (a .x) n × (recordEnd n ≤ length (a .out .now)) × (recordEnd n ≤ textMost)
 fits c =
@@ -33,7 +34,8 @@ refused-requires c κs = search needs
 
 returns : tie.Need-returns
 returns c =
-    let a = c .before .before .before .before .before .before .before .args in
+    let after-usable = c .before .before .before .before in
+    let a = after-usable .before .before .before .args in
     let cs = view (a .s) (a .t .now) .cells in
     let m = c .before .before .before .measure in
     λ ws. list-refused (listAt cs _) ws _ _
@@ -42,7 +44,8 @@ returns c =
 
 put-requires : tie.Need-put-requires
 put-requires c κs =
-    let start = c .before .before .before .before .before .before .before in
+    let after-usable = c .before .before .before .before in
+    let start = after-usable .before .before .before in
     let f = fits (c .before) in
     let p = start .pre in
     (p .0, (p .1, (f .0, omega arith)))
@@ -59,7 +62,9 @@ fill-requires c κs =
     (omega (arith, e), omega (arith, e, f .1, n))
 
 cast-done : tie.Need-cast-done
-cast-done c = omega (arith, fits (c .before .before .before .before .before .before .before .before .before) .2)
+cast-done c =
+    let after-record-end = c .before .before .before .before in
+    omega (arith, fits (after-record-end .before .before .before .before .before) .2)
 
 done-requires : tie.Need-done-requires
 done-requires c κs = search needs
@@ -72,7 +77,8 @@ returns-2 c =
     let after-fill = c .before .before .before in
     let after-put = after-fill .before .before .before .before .before in
     let else1 = after-put .before .before in
-    let a = else1 .before .before .before .before .before .before .args in
+    let after-usable = else1 .before .before .before in
+    let a = after-usable .before .before .before .args in
     let cs = view (a .s) (a .t .now) .cells in
     let m = else1 .before .before .measure in
     let u = else1 .before .before .before .usable in

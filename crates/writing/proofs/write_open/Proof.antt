@@ -40,9 +40,10 @@ holder-of-requires c κs = search needs
 
 write-list-requires : tie.Need-write-list-requires
 write-list-requires c κs =
+    let after-is-sound = c .before .before .before .before .before in
+    let after-holders = after-is-sound .before .before .before in
     let else2 = c .before .before in
-    let after-is-sound = else2 .before .before .before in
-    let start = after-is-sound .before .before .before .before .before .before .before in
+    let start = after-holders .before .before .before .before in
     (start .pre .table, stands _ _ _ (after-is-sound .is-sound .ensures .sound .0 (not-false _ (else2 .if2 .left))) (c .before .holder-of .ensures .0))
 
 same-length-2 : tie.Need-same-length-2
