@@ -1,5 +1,4 @@
-pub mod Session
-pub mod Kept
+pub mod Serving
+pub mod Whole
 pub mod Standing
-pub mod Trim
 pub mod laws

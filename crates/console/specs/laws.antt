@@ -1,5 +1,2 @@
-pub mod FreeLaws
-pub mod SessionLaws
-pub mod ReadLaws
-pub mod WriteLaws
+pub mod ServingLaws
 pub mod StandingLaws

@@ -1,12 +1,13 @@
 // The session: lines in, answers out. Each answer is written at once, so nothing is held back while it waits for input.
+// `step` and `finish` do the work, on slices alone; `serve` and `run` read, write and go on.
 ghost use mathlib.Core.Path.{_≡_};
-ghost use mathlib.Core.Bool.{false};
 ghost use Prim.Native.Nat.{_≤_};
 ghost use lib.ListN.{length};
-ghost use Rattle.lines.specs.Splitting.{lineMost};
-ghost use Rattle.console.specs.Kept.{Lent};
-ghost use Rattle.console.specs.Standing.{start, afterRead, afterEnd, Answers, Feeds, Standing};
-use crate::answer::answer;
+ghost use Rattle.answering.specs.Kept.{Prints};
+ghost use Rattle.console.specs.Serving.{closing};
+ghost use Rattle.console.specs.Standing.{start, mid, Standing, Stepped, Served};
+use answering::answer::answer;
+use libc::STDERR_FILENO;
 use libc::STDOUT_FILENO;
 use lines::gather::Gathered;
 use lines::gather::Line;
@@ -16,22 +17,14 @@ use scan::limits::Record;
 use table::Cell;
 use table::Shape;
 
-pub mod answer;
-pub mod free;
-pub mod operate;
-pub mod texts;
-
-// The place in the chunk and the bytes that it has; of the line, its bytes so far, whether there were too many and whether it is whole;
-// the words of the table in use; and whether the input has ended and all is answered.
+// The place in the chunk; of the line, its bytes so far and whether there were too many; the words of the table in use;
+// and the bytes to be written.
 pub struct State {
     pub at: usize,
-    pub got: usize,
     pub len: usize,
     pub over: bool,
-    pub ready: bool,
     pub used: usize,
-    pub ended: bool,
-    pub done: bool,
+    pub wrote: usize,
 }
 
 impl State {
@@ -40,135 +33,121 @@ impl State {
     {
         State {
             at: 0,
-            got: 0,
             len: 0,
             over: false,
-            ready: false,
             used: 0,
-            ended: false,
-            done: false,
+            wrote: 0,
         }
     }
+}
+
+// A reply, and the longest text with its line feed.
+const PRINTED: usize = Reply::MOST + Record::TEXT + 1;
+
+// One step: bytes of the chunk are taken into the line, and if it is whole then, it is answered.
+pub fn step(
+    chunk: &[u8],
+    line: &mut [u8],
+    table: &mut [u32],
+    work: &mut [u32],
+    out: &mut [u8],
+    s: State,
+) -> State
+    requires { ⌜ s .at ≤ length (now chunk) ⌝ }
+    requires { ⌜ Standing s (now line) (now table) (now work) (now out) ⌝ }
+    ensures { λ r. ⌜
+        Stepped s (now (chunk .entry)) (now (line .entry)) (now (table .entry)) r (now (line .exit)) (now (table .exit))
+        (now (out .exit))
+        ⌝ }
+{
+    let from = Gathered {
+        at: s.at,
+        len: s.len,
+        over: s.over,
+        ready: false,
+    };
+    let g = gather(chunk, line, from);
+    if !g.ready {
+        let wrote = 0;
+        return State {
+            at: g.at,
+            len: g.len,
+            over: g.over,
+            used: s.used,
+            wrote,
+        };
+    }
+    let a = answer(line, g.len, g.over, table, s.used, work, out);
+    State {
+        at: g.at,
+        len: 0,
+        over: false,
+        used: a.used,
+        wrote: a.count,
+    }
+}
+
+// At the end of input a last line with no line feed is a line. Gives the bytes to be written.
+pub fn finish(line: &[u8], table: &mut [u32], work: &mut [u32], out: &mut [u8], s: State) -> usize
+    requires { ⌜ Standing s (now line) (now table) (now work) (now out) ⌝ }
+    ensures { λ r. ⌜ Prints (closing (mid s (now (line .entry)) (now (table .entry)))) r (now (out .exit)) ⌝ }
+{
+    if s.len == 0 {
+        return 0;
+    }
+    let a = answer(line, s.len, s.over, table, s.used, work, out);
+    a.count
+}
+
+// More bytes; none at the end of input, and where reading fails.
+fn read(fd: i32, chunk: &mut [u8]) -> usize
+    ensures { λ r. ⌜ r ≤ length (now (chunk .exit)) ⌝ }
+{
+    let got = libc::read(fd, chunk);
+    if got < 0 {
+        io::write_all(STDERR_FILENO, b"session: reading failed\n");
+        return 0;
+    }
+    io::count(got, chunk)
 }
 
 fn write(out: &[u8], n: usize)
     requires { ⌜ n ≤ length (now out) ⌝ }
 {
-    io::write_all(STDOUT_FILENO, &out[0..n]);
-}
-
-// A whole line is answered.
-fn answer_line(
-    line: &[u8],
-    table: &mut [u32],
-    work: &mut [u32],
-    out: &mut [u8],
-    texts: &mut [u8],
-    s: State,
-) -> State
-    requires { ⌜ (s .len ≤ length (now line)) × (s .len ≤ lineMost) ⌝ }
-    requires { ⌜ Lent (now table) (s .used) (now work) (now out) (now texts) ⌝ }
-    ensures { λ r. ⌜ Answers s (now (line .entry)) (now (table .entry)) r (now (table .exit)) ⌝ }
-{
-    let a = answer(line, s.len, s.over, table, s.used, work, out, texts);
-    write(out, a.count);
-    write(texts, a.text);
-    State {
-        at: s.at,
-        got: s.got,
-        len: 0,
-        over: false,
-        ready: false,
-        used: a.used,
-        ended: s.ended,
-        done: s.ended,
+    if !io::write_all(STDOUT_FILENO, &out[0..n]) {
+        io::write_all(STDERR_FILENO, b"session: writing failed\n");
     }
 }
 
-// Bytes of the chunk are taken into the line.
-fn take_bytes(chunk: &[u8], line: &mut [u8], s: State) -> State
-    requires { ⌜ (s .got ≤ length (now chunk)) × (s .at ≤ s .got) ⌝ }
-    requires { ⌜ (length (now line) ≡ lineMost) × (s .len ≤ lineMost) × (s .ready ≡ false) ⌝ }
-    ensures { λ r. ⌜ Feeds s (now (chunk .entry)) (now (line .entry)) r (now (line .exit)) ⌝ }
-{
-    let got = s.got;
-    let from = Gathered {
-        at: s.at,
-        len: s.len,
-        over: s.over,
-        ready: s.ready,
-    };
-    let g = gather(&chunk[0..got], line, from);
-    State {
-        at: g.at,
-        got,
-        len: g.len,
-        over: g.over,
-        ready: g.ready,
-        used: s.used,
-        ended: s.ended,
-        done: false,
-    }
-}
-
-// More bytes are read; none, or a failed read, is the end of input.
-fn read_bytes(fd: i32, chunk: &mut [u8], s: State) -> State
-    ensures { λ r. ⌜ (r ≡ afterRead s (r .got)) × (r .got ≤ length (now (chunk .exit))) ⌝ }
-{
-    let n = io::count(libc::read(fd, chunk), chunk);
-    State {
-        at: 0,
-        got: n,
-        len: s.len,
-        over: s.over,
-        ready: false,
-        used: s.used,
-        ended: n == 0,
-        done: false,
-    }
-}
-
-// At the end of input a last line with no line feed is a line.
-fn finish(s: State) -> State
-    ensures { λ r. ⌜ r ≡ afterEnd s ⌝ }
-{
-    let none = s.len == 0;
-    State {
-        at: s.at,
-        got: s.got,
-        len: s.len,
-        over: s.over,
-        ready: !none,
-        used: s.used,
-        ended: s.ended,
-        done: none,
-    }
-}
-
-// One turn: a whole line is answered; else bytes are taken into the line; else, unless the input has ended, more are read.
-fn turn(
-    fd: i32,
-    chunk: &mut [u8],
+// A whole chunk, step by step; what each prints is written.
+fn serve(
+    chunk: &[u8],
     line: &mut [u8],
     table: &mut [u32],
     work: &mut [u32],
     out: &mut [u8],
-    texts: &mut [u8],
-    s: State,
+    from: State,
 ) -> State
-    requires { ⌜ Standing s (now chunk) (now line) (now table) (now work) (now out) (now texts) ⌝ }
-    ensures { λ r. ⌜ Standing r (now (chunk .exit)) (now (line .exit)) (now (table .exit)) (now (work .exit)) (now (out .exit)) (now (texts .exit)) ⌝ }
+    requires { ⌜ Standing from (now line) (now table) (now work) (now out) ⌝ }
+    ensures { λ r. ⌜ Standing r (now (line .exit)) (now (table .exit)) (now (work .exit)) (now (out .exit)) ⌝ }
+    ensures { λ r. ⌜
+        Served (mid from (now (line .entry)) (now (table .entry))) (now (chunk .entry))
+        (mid r (now (line .exit)) (now (table .exit)))
+        ⌝ }
 {
-    if s.ready {
-        return answer_line(line, table, work, out, texts, s);
+    let n = chunk.len();
+    let mut s = State {
+        at: 0,
+        len: from.len,
+        over: from.over,
+        used: from.used,
+        wrote: 0,
+    };
+    while s.at < n {
+        s = step(chunk, line, table, work, out, s);
+        write(out, s.wrote);
     }
-    if s.at < s.got {
-        return take_bytes(chunk, line, s);
-    }
-    if s.ended {
-        return finish(s);
-    }
-    read_bytes(fd, chunk, s)
+    s
 }
 
 fn run(
@@ -178,15 +157,21 @@ fn run(
     table: &mut [u32],
     work: &mut [u32],
     out: &mut [u8],
-    texts: &mut [u8],
 )
-    requires { ⌜ Standing start (now chunk) (now line) (now table) (now work) (now out) (now texts) ⌝ }
+    requires { ⌜ Standing start (now line) (now table) (now work) (now out) ⌝ }
 {
     let mut s = State::new();
-    let mut turns = u64::MAX;
-    while turns > 0 && !s.done {
-        s = turn(fd, chunk, line, table, work, out, texts, s);
-        turns -= 1;
+    // every loop must end: this one after more reads than a machine lives to make
+    let mut reads = u64::MAX;
+    while reads > 0 {
+        let n = read(fd, chunk);
+        if n == 0 {
+            let last = finish(line, table, work, out, s);
+            write(out, last);
+            return;
+        }
+        s = serve(&chunk[0..n], line, table, work, out, s);
+        reads -= 1;
     }
 }
 
@@ -196,15 +181,6 @@ pub fn session(fd: i32) {
     let mut line = [0u8; Line::MOST];
     let mut table = [0u32; Shape::WORDS_MOST];
     let mut work = [0u32; 2 * Cell::MOST];
-    let mut out = [0u8; Reply::MOST];
-    let mut texts = [0u8; Record::TEXT + 1];
-    run(
-        fd,
-        &mut chunk,
-        &mut line,
-        &mut table,
-        &mut work,
-        &mut out,
-        &mut texts,
-    );
+    let mut out = [0u8; PRINTED];
+    run(fd, &mut chunk, &mut line, &mut table, &mut work, &mut out);
 }

@@ -1,4 +1,5 @@
--- What a line asks for: one of fourteen names, and behind it numbers with a blank before each. READ's text is what stands behind the second blank.
+-- What a line asks for: one of fourteen names, and behind it numbers with a blank before each. READ's text is what
+-- stands behind the second blank.
 use mathlib.Core.Bool.{Bool, true, false, cond, _&&_}
 use mathlib.Core.List.{List, [], _∷_}
 use Prim.Native.Nat.{ℕ}
@@ -26,11 +27,14 @@ startsWith (c ∷ cs) (x ∷ s) = eqb c x && startsWith cs s
 abbrev pub name : ℕ → ℕ → Name
 name c n = record { code = c; long = n }
 
+abbrev pub nameOr : List ℕ → ℕ → List ℕ → Name → Name
+nameOr n c s other = cond (startsWith n s) (name c (length n)) other
+
 abbrev pub named : String → ℕ → List ℕ → Name → Name
-named n c s other = cond (startsWith (chars n) s) (name c (length (chars n))) other
+named n = nameOr (chars n)
 
 -- those that take two numbers, PFA a and v, the others a and b; and those that take only a
-unfoldable pub nameOfTwo : List ℕ → Name
+abbrev pub nameOfTwo : List ℕ → Name
 nameOfTwo s =
     named "PFA " PFA s (
     named "PFL " PFL s (
@@ -40,7 +44,7 @@ nameOfTwo s =
     named "CINV " CINV s (
     named "CONC " CONC s (name 0 0)))))))
 
-unfoldable pub nameOfOne : List ℕ → Name
+abbrev pub nameOfOne : List ℕ → Name
 nameOfOne s =
     named "ERASE " ERASE s (
     named "INV " INV s (

@@ -1,4 +1,5 @@
--- What the code's values stand for: a place in a line for the bytes from there on, a buffer and a length for the bytes kept.
+-- What the code's values stand for: a place in a line for the bytes from there on, a buffer and a length for the bytes
+-- kept.
 use mathlib.Core.Path.{_≡_}
 use mathlib.Core.Bool.{false, cond}
 use mathlib.Core.List.{List, [], _∷_}

@@ -24,7 +24,8 @@ column v c = decimal v ++ (c ∷ [])
 
 -- answer, kind, value and free cells
 abbrev pub reply : ℕ → ℕ → ℕ → ℕ → List ℕ
-reply answer kind value free = column answer blank ++ (column kind blank ++ (column value blank ++ column free lineFeed))
+reply answer kind value free =
+    column answer blank ++ (column kind blank ++ (column value blank ++ column free lineFeed))
 
 -- what a malformed line prints: a question mark
 abbrev pub question : List ℕ

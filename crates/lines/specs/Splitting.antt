@@ -1,4 +1,5 @@
--- Input in lines, and the same byte by byte. A line feed ends a line and is no byte of it; the last line may go without one.
+-- Input in lines, and the same byte by byte. A line feed ends a line and is no byte of it; the last line may go without
+-- one.
 use mathlib.Core.Bool.{Bool, true, false, cond}
 use mathlib.Core.List.{List, [], _∷_, _++_, map}
 use Prim.Native.Nat.{ℕ}

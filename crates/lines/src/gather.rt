@@ -12,7 +12,8 @@ impl Line {
     pub const MOST: usize = 200;
 }
 
-// The place in the chunk, the bytes of the line so far, whether there were more than it can have, and whether it is whole.
+// The place in the chunk, the bytes of the line so far, whether there were more than it can have, and whether it is
+// whole.
 pub struct Gathered {
     pub at: usize,
     pub len: usize,
@@ -25,7 +26,11 @@ fn take_byte(line: &mut [u8], g: Gathered, b: u8) -> Gathered
     requires { ⌜ length (now line) ≡ lineMost ⌝ }
     requires { ⌜ (g .len ≤ lineMost) × (g .ready ≡ false) ⌝ }
     requires { ⌜ g .at + 1 < 2 ^ 64 ⌝ }
-    ensures { λ r. ⌜ (stands (now (line .exit)) r ≡ eat (stands (now (line .entry)) g) b) × (r .at ≡ g .at + 1) × (r .len ≤ lineMost) ⌝ }
+    ensures { λ r. ⌜
+        (stands (now (line .exit)) r ≡ eat (stands (now (line .entry)) g) b)
+        × (r .at ≡ g .at + 1)
+        × (r .len ≤ lineMost)
+        ⌝ }
 {
     let at = g.at + 1;
     let len = g.len;

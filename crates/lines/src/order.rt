@@ -2,7 +2,8 @@
 ghost use mathlib.Core.Path.{_≡_};
 ghost use lib.ListN.{drop};
 ghost use Rattle.lines.specs.Numbers.{numberIn, parted, ended};
-ghost use Rattle.lines.specs.Commands.{startsWith, name, nameOfTwo, nameOfOne, withTwo, withOne, newIn, readingIn, writingIn, operationIn, command};
+ghost use Rattle.lines.specs.Commands.{startsWith, name, nameOr, nameOfTwo, nameOfOne, withTwo, withOne};
+ghost use Rattle.lines.specs.Commands.{newIn, readingIn, writingIn, operationIn, command};
 ghost use Rattle.lines.specs.Meaning.{meant};
 use crate::number::Found;
 use crate::number::last_number;
@@ -48,51 +49,39 @@ fn starts(line: &[u8], name: &[u8]) -> bool
     true
 }
 
-// The operations that take two numbers.
+// The name that the line starts with, or what was found otherwise.
+fn named(line: &[u8], name: &[u8], code: u32, other: Name) -> Name
+    ensures { λ r. ⌜ r ≡ nameOr (now (name .entry)) code (now (line .entry)) other ⌝ }
+{
+    if starts(line, name) {
+        return Name::new(code, name.len());
+    }
+    other
+}
+
+// The operations that take two numbers, the last first.
 fn name_of_two(line: &[u8]) -> Name
     ensures { λ r. ⌜ r ≡ nameOfTwo (now (line .entry)) ⌝ }
 {
-    if starts(line, b"PFA ") {
-        return Name::new(Code::PFA, 4);
-    }
-    if starts(line, b"PFL ") {
-        return Name::new(Code::PFL, 4);
-    }
-    if starts(line, b"DECAP ") {
-        return Name::new(Code::DECAP, 6);
-    }
-    if starts(line, b"ADV ") {
-        return Name::new(Code::ADV, 4);
-    }
-    if starts(line, b"BORROW ") {
-        return Name::new(Code::BORROW, 7);
-    }
-    if starts(line, b"CINV ") {
-        return Name::new(Code::CINV, 5);
-    }
-    if starts(line, b"CONC ") {
-        return Name::new(Code::CONC, 5);
-    }
-    Name::new(0, 0)
+    let n = Name::new(0, 0);
+    let n = named(line, b"CONC ", Code::CONC, n);
+    let n = named(line, b"CINV ", Code::CINV, n);
+    let n = named(line, b"BORROW ", Code::BORROW, n);
+    let n = named(line, b"ADV ", Code::ADV, n);
+    let n = named(line, b"DECAP ", Code::DECAP, n);
+    let n = named(line, b"PFL ", Code::PFL, n);
+    named(line, b"PFA ", Code::PFA, n)
 }
 
-// The operations that take one number.
+// The operations that take one number, the last first.
 fn name_of_one(line: &[u8]) -> Name
     ensures { λ r. ⌜ r ≡ nameOfOne (now (line .entry)) ⌝ }
 {
-    if starts(line, b"ERASE ") {
-        return Name::new(Code::ERASE, 6);
-    }
-    if starts(line, b"INV ") {
-        return Name::new(Code::INV, 4);
-    }
-    if starts(line, b"FIRST ") {
-        return Name::new(Code::FIRST, 6);
-    }
-    if starts(line, b"LENGTH ") {
-        return Name::new(Code::LENGTH, 7);
-    }
-    Name::new(0, 0)
+    let n = Name::new(0, 0);
+    let n = named(line, b"LENGTH ", Code::LENGTH, n);
+    let n = named(line, b"FIRST ", Code::FIRST, n);
+    let n = named(line, b"INV ", Code::INV, n);
+    named(line, b"ERASE ", Code::ERASE, n)
 }
 
 // Two numbers from a place on: a, and v for PFA or b for the others.
@@ -151,7 +140,10 @@ fn writing(line: &[u8], at: usize) -> Order
 }
 
 fn operation(line: &[u8]) -> Order
-    ensures { λ r. ⌜ meant (now (line .entry)) r ≡ operationIn (nameOfTwo (now (line .entry))) (nameOfOne (now (line .entry))) (now (line .entry)) ⌝ }
+    ensures { λ r. ⌜
+        meant (now (line .entry)) r
+        ≡ operationIn (nameOfTwo (now (line .entry))) (nameOfOne (now (line .entry))) (now (line .entry))
+        ⌝ }
 {
     let n = name_of_two(line);
     if n.code != 0 {

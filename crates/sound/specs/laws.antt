@@ -1,4 +1,5 @@
 pub mod MirrorLaws
+pub mod CountLaws
 pub mod CopyLaws
 pub mod ChainLaws
 pub mod RoomLaws

@@ -36,7 +36,7 @@ fn both(a: bool, b: bool) -> bool
     false
 }
 
-fn one_if_none(r: usize) -> u32
+pub fn one_if_none(r: usize) -> u32
     ensures { λ k. ⌜ k ≡ same r 0 ⌝ }
 {
     if r == 0 {

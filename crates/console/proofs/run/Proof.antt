@@ -8,23 +8,21 @@ use Rattle.console.proofs.run.Statement.{statement}
 use Rattle.console.proofs.run.Tie as tie
 
 abbrev Inv-loop : tie.InvT-loop
-Inv-loop fd chunk₀ line₀ table₀ work₀ out₀ texts₀ s₀ turns₀ chunk line table work out texts s turns =
-    Standing s chunk line table work out texts × (length chunk ≡ length chunk₀) × (length line ≡ length line₀) × (length table ≡ length table₀)
-    × (length work ≡ length work₀) × (length out ≡ length out₀) × (length texts ≡ length texts₀)
+Inv-loop fd chunk₀ line₀ table₀ work₀ out₀ s₀ reads₀ chunk line table work out s reads =
+    Standing s line table work out × (length chunk ≡ length chunk₀) × (length line ≡ length line₀) × (length table ≡ length table₀)
+    × (length work ≡ length work₀) × (length out ≡ length out₀)
 
 abbrev μ-loop : tie.MeasureT-loop
-μ-loop fd chunk₀ line₀ table₀ work₀ out₀ texts₀ s₀ turns₀ chunk line table work out texts s turns = turns
+μ-loop fd chunk₀ line₀ table₀ work₀ out₀ s₀ reads₀ chunk line table work out s reads = reads
 
 new-requires : tie.Need-new-requires Inv-loop μ-loop
 new-requires c κs = search needs
 
 loop-holds : tie.Need-loop-holds Inv-loop μ-loop
 loop-holds c =
-    let start = c .before .before .before .before .before .before .before in
+    let start = c .before .before .before .before .before .before in
     let a = start .args in (
-      subst (λ (u : State). Standing u (a .chunk .now) (a .line .now) (a .table .now) (a .work .now) (a .out .now) (a .texts .now)) (sym (c .new .ensures))
-          (start .pre),
-      refl,
+      subst (λ (u : State). Standing u (a .line .now) (a .table .now) (a .work .now) (a .out .now)) (sym (c .new .ensures)) (start .pre),
       refl,
       refl,
       refl,
@@ -32,31 +30,16 @@ loop-holds c =
       refl,
     )
 
-turn-requires : tie.Need-turn-requires Inv-loop μ-loop
-turn-requires c κs =
-    let turn = c .before .before .before .before .before .before .before .before .before in
+read-requires : tie.Need-read-requires Inv-loop μ-loop
+read-requires c κs = search needs
+
+finish-requires : tie.Need-finish-requires Inv-loop μ-loop
+finish-requires c κs =
+    let turn = c .before .before .before .before .before .before .before .before .before .before in
     turn .loop .inv .0
 
-sub-turns : tie.Need-sub-turns Inv-loop μ-loop
-sub-turns c = search needs
-
-loop-less : tie.Need-loop-less Inv-loop μ-loop
-loop-less c = search needs
-
-loop-again : tie.Need-loop-again Inv-loop μ-loop
-loop-again c =
-    let after-turn = c .before .before .before .before .before .before .before .before .before .before .before .before in
-    let turn = after-turn .before .before .before .before .before .before .before .before .before .before in
-    let v = turn .loop .inv in
-    let k = after-turn .turn .kept in (
-      after-turn .turn .ensures,
-      k .1 .0 ∙ v .1,
-      k .1 .1 .0 ∙ v .2,
-      k .1 .1 .1 .0 ∙ v .3,
-      k .1 .1 .1 .1 .0 ∙ v .4,
-      k .1 .1 .1 .1 .1 .0 ∙ v .5,
-      k .1 .1 .1 .1 .1 .1 .0 ∙ v .6,
-    )
+write-requires : tie.Need-write-requires Inv-loop μ-loop
+write-requires c κs = c .before .before .before .before .before .before .before .finish .ensures .fits
 
 same-length : tie.Need-same-length Inv-loop μ-loop
 same-length c = search needs
@@ -73,11 +56,45 @@ same-length-4 c = search needs
 same-length-5 : tie.Need-same-length-5 Inv-loop μ-loop
 same-length-5 c = search needs
 
-same-length-6 : tie.Need-same-length-6 Inv-loop μ-loop
-same-length-6 c = search needs
-
 returns : tie.Need-returns Inv-loop μ-loop
 returns c = search needs
+
+sub-serve : tie.Need-sub-serve Inv-loop μ-loop
+sub-serve c = search needs
+
+part-serve-start : tie.Need-part-serve-start Inv-loop μ-loop
+part-serve-start c = search needs
+
+part-serve-end : tie.Need-part-serve-end Inv-loop μ-loop
+part-serve-end c = search needs
+
+serve-requires : tie.Need-serve-requires Inv-loop μ-loop
+serve-requires c κs =
+    let turn = c .before .before .before .before .before .before .before .before .before .before .before .before in
+    turn .loop .inv .0
+
+sub-reads : tie.Need-sub-reads Inv-loop μ-loop
+sub-reads c = search needs
+
+loop-less : tie.Need-loop-less Inv-loop μ-loop
+loop-less c = search needs
+
+loop-again : tie.Need-loop-again Inv-loop μ-loop
+loop-again c =
+    let after-serve = c .before .before .before .before .before .before .before .before in
+    let after-read = after-serve .before .before .before .before .before .before .before .before .before .before in
+    let v = after-read .before .before .before .loop .inv in
+    let k = after-serve .serve .kept in (
+      after-serve .serve .ensures .0,
+      after-read .read .kept .1 .0 ∙ v .1,
+      k .1 .0 ∙ v .2,
+      k .1 .1 .0 ∙ v .3,
+      k .1 .1 .1 .0 ∙ v .4,
+      k .1 .1 .1 .1 .0 ∙ v .5,
+    )
+
+same-length-6 : tie.Need-same-length-6 Inv-loop μ-loop
+same-length-6 c = search needs
 
 same-length-7 : tie.Need-same-length-7 Inv-loop μ-loop
 same-length-7 c = search needs
@@ -91,12 +108,6 @@ same-length-9 c = search needs
 same-length-10 : tie.Need-same-length-10 Inv-loop μ-loop
 same-length-10 c = search needs
 
-same-length-11 : tie.Need-same-length-11 Inv-loop μ-loop
-same-length-11 c = search needs
-
-same-length-12 : tie.Need-same-length-12 Inv-loop μ-loop
-same-length-12 c = search needs
-
 returns-2 : tie.Need-returns-2 Inv-loop μ-loop
 returns-2 c = search needs
 
@@ -108,21 +119,25 @@ run-spec =
     μ-loop
     new-requires
     loop-holds
-    turn-requires
-    sub-turns
-    loop-less
-    loop-again
+    read-requires
+    finish-requires
+    write-requires
     same-length
     same-length-2
     same-length-3
     same-length-4
     same-length-5
-    same-length-6
     returns
+    sub-serve
+    part-serve-start
+    part-serve-end
+    serve-requires
+    sub-reads
+    loop-less
+    loop-again
+    same-length-6
     same-length-7
     same-length-8
     same-length-9
     same-length-10
-    same-length-11
-    same-length-12
     returns-2)

@@ -1,5 +1,5 @@
 -- A line's start compared with a name byte by byte, and what a name and its numbers ask for, by the tests that the code makes.
-use mathlib.Core.Path.{_≡_, refl, sym}
+use mathlib.Core.Path.{_≡_, refl, sym, ap, _∙_}
 use mathlib.Core.Bool.{true, false}
 use mathlib.Core.List.{List}
 use Prim.Native.Nat.{ℕ, _+_, _≤_, _<_}
@@ -9,7 +9,7 @@ use lib.ListN.{length, getD, drop, drop-of-length-le}
 use lib.Seq.{drop-cons}
 use Rattle.lines.specs.declared.order.Name.{Name}
 use Rattle.pool.specs.Script.{PFA}
-use Rattle.lines.specs.Commands.{malformed, operation, reading, startsWith, nameOfTwo, nameOfOne, second, withText, withTwo, withOne, operationIn}
+use Rattle.lines.specs.Commands.{malformed, operation, reading, startsWith, nameOr, nameOfTwo, nameOfOne, second, withText, withTwo, withOne, operationIn}
 use Rattle.lines.specs.Numbers.{numberIn, parted, ended}
 
 module _ (name line : List ℕ) (i : ℕ) where
@@ -28,6 +28,10 @@ module _ (name line : List ℕ) (i : ℕ) where
   pub starts-all : length name ≤ i → startsWith (drop i name) (drop i line) ≡ true
   unfolding startsWith
   starts-all l = rw (drop-of-length-le name l) refl
+
+-- a name before others
+pub or-name : (n : List ℕ) (c : ℕ) (s : List ℕ) {p q r : Name} → r ≡ nameOr n c s p → p ≡ q → r ≡ nameOr n c s q
+or-name n c s e f = e ∙ ap (nameOr n c s) f
 
 pub with-text : (s : List ℕ) (h at : ℕ) → at < length s → reading h (drop at s) ≡ withText h (drop at s)
 with-text s h at l = rw (drop-cons s at 0 l) refl

@@ -5,6 +5,7 @@ use mathlib.Core.Bool.{Bool, true, false, false≢true}
 use mathlib.Core.List.{List, []}
 use Prim.Native.Nat.{ℕ, _+_, _-_, _≤_, _<_}
 use native.Mathlib.Omega.{arith}
+use native.Mathlib.Decide.{decLt}
 use native.Mathlib.Numerals.{add-one}
 use borrow.Author.Tests.{lt-ltb, le-ltb, eq-eqb, ne-eqb}
 use lib.ListN.{length, getD, set, take, drop, length-take}
@@ -64,3 +65,21 @@ module _ (chunk old mid new : List ℕ) (g p r : Gathered) (i : Gathers-on chunk
 
 pub gathers-all : (chunk old : List ℕ) (g r : Gathered) (new : List ℕ) → Gathers-on chunk old g r new → length chunk ≤ r .at → Gathers chunk old g r new
 gathers-all chunk old g r new i l = record { is = i .is; low = i .low; high = i .high; short = i .short; all = λ q. omega (arith, i .high) }
+
+-- where the chunk has bytes left, some are taken
+pub gathers-some : (chunk old : List ℕ) (g r : Gathered) (new : List ℕ) → Gathers chunk old g r new → g .ready ≡ false → g .at < length chunk → g .at < r .at
+unfolding eaten
+gathers-some chunk old g r new i o l = go (r .ready) refl (decLt (g .at) (r .at))
+  where
+    go : (b : Bool) → r .ready ≡ b → Dec (g .at < r .at) → g .at < r .at
+    go b e (yes h) = h
+    go false e (no h) = omega (arith, i .all e)
+    go true e (no h) =
+        let n : r .at - g .at ≡ 0 = omega arith in
+        let q : stands new r ≡ stands old g = i .is ∙ ap (λ (k : ℕ). eaten (stands old g) (take k (drop (g .at) chunk))) n in
+        let z : _≡_ {A = ℕ} 1 0 =
+        sym (ap (λ (x : Bool). length (stands new (gathered (r .at) (r .len) (r .over) x) .lines)) e)
+        ∙ ap (λ (x : Gathering). length (x .lines)) q
+        ∙ ap (λ (x : Bool). length (stands old (gathered (g .at) (g .len) (g .over) x) .lines)) o
+        in
+        absurd (omega (arith, z))

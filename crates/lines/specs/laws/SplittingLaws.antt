@@ -18,6 +18,29 @@ unfolding eaten
 eaten-append [] b g = refl
 eaten-append (c ∷ a) b g = eaten-append a b (eat g c)
 
+-- lines that are whole do not change how later bytes are split
+abbrev pub behind : List Line → Gathering → Gathering
+behind ls g = record { lines = ls ++ g .lines; kept = g .kept; over = g .over }
+
+eat-behind : (ls : List Line) (g : Gathering) (c : ℕ) → eat (behind ls g) c ≡ behind ls (eat g c)
+eat-behind ls g c = go (eqb c lineFeed) (ltb (length (g .kept)) lineMost)
+  where
+    go : (a b : Bool) →
+        cond a (record { lines = (ls ++ g .lines) ++ (ready (g .kept) (g .over) ∷ []); kept = []; over = false })
+        (cond b (record { lines = ls ++ g .lines; kept = g .kept ++ (c ∷ []); over = g .over })
+        (record { lines = ls ++ g .lines; kept = g .kept; over = true }))
+        ≡ behind ls
+        (cond a (record { lines = g .lines ++ (ready (g .kept) (g .over) ∷ []); kept = []; over = false })
+        (cond b (record { lines = g .lines; kept = g .kept ++ (c ∷ []); over = g .over }) (record { lines = g .lines; kept = g .kept; over = true })))
+    go true b = ap (λ (x : List Line). record { lines = x; kept = []; over = false }) (append-assoc ls (g .lines) (ready (g .kept) (g .over) ∷ []))
+    go false true = refl
+    go false false = refl
+
+pub eaten-behind : (s : List ℕ) (ls : List Line) (g : Gathering) → eaten (behind ls g) s ≡ behind ls (eaten g s)
+unfolding eaten
+eaten-behind [] ls g = refl
+eaten-behind (c ∷ s) ls g = ap (λ (x : Gathering). eaten x s) (eat-behind ls g c) ∙ eaten-behind s ls (eat g c)
+
 -- one byte more of a chunk
 pub eaten-more : (s : List ℕ) (f t : ℕ) (g : Gathering) → f ≤ t → t < length s → eaten g (take (t + 1 - f) (drop f s)) ≡ eat (eaten g (take (t - f) (drop f s))) (getD s t 0)
 unfolding eaten

@@ -1,0 +1,4 @@
+pub mod Session
+pub mod Kept
+pub mod Trim
+pub mod laws
