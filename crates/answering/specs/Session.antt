@@ -6,11 +6,13 @@ use Prim.Native.Nat.{ℕ, _*_}
 use lib.Dec.{eqb}
 use lib.ListN.{getD, replicate}
 use Rattle.answers.specs.Answers.{DONE}
+-- the kind where there is nothing to say
+pub use Rattle.answers.specs.Codes.{nothingKind}
 use Rattle.pool.specs.Pool.{frees}
 use Rattle.table.specs.Limits.{cellsMost}
 use Rattle.table.specs.View.{four, wordCount}
 use Rattle.calls.specs.SetUp.{Given, setUp}
-use Rattle.calls.specs.Entry.{shown}
+use Rattle.calls.specs.Entry.{workWords, shown}
 use Rattle.calls.specs.Run.{Ran, ran}
 use Rattle.calls.specs.Read.{Read, readIn}
 use Rattle.calls.specs.Write.{Write, writeOut}
@@ -30,10 +32,6 @@ pub record Turn : Type 0 where
 
 abbrev pub asked : List ℕ → Turn
 asked ts = record { words = ts; printed = question }
-
--- kind and value where there is nothing to say
-abbrev pub nothingKind : ℕ
-nothingKind = 3
 
 unfoldable pub freeCells : List ℕ → ℕ
 freeCells ts = frees (shown Four ts .cells)
@@ -61,7 +59,7 @@ opening ts g = record { words = newWords ts g; answer = g .answer; kind = nothin
 -- an operation: a script of four words, with work space for the largest table; where it is refused the two results
 -- stay
 abbrev pub workMost : ℕ
-workMost = 2 * cellsMost Four
+workMost = workWords * cellsMost Four
 
 abbrev pub performing : List ℕ → ℕ → ℕ → ℕ → ℕ → Ran
 performing ts c a b v = ran ts (replicate workMost 0) (c ∷ a ∷ b ∷ v ∷ []) (nothingKind ∷ 0 ∷ [])

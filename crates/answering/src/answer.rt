@@ -14,6 +14,7 @@ use crate::engine::read_text;
 use crate::free::free_cells;
 use crate::texts::write_text;
 use answers::Answer;
+use answers::Kind;
 use lines::order::Order;
 use lines::order::parse;
 use lines::printed::put_question;
@@ -64,7 +65,7 @@ fn do_writing(table: &[u32], used: usize, work: &mut [u32], out: &mut [u8], h: u
         Speaks (does (take used (now (table .entry))) (writing h)) r (now (table .entry)) (now (out .exit))
         ⌝ }
 {
-    let count = tell(&table[0..used], out, Answer::DONE, Said::NOTHING, 0);
+    let count = tell(&table[0..used], out, Answer::DONE, Kind::NOTHING, 0);
     let end = count + Record::TEXT + 1;
     let t = write_text(&table[0..used], work, h, &mut out[count..end]);
     if t.answer == Answer::DONE {
@@ -73,7 +74,7 @@ fn do_writing(table: &[u32], used: usize, work: &mut [u32], out: &mut [u8], h: u
             count: count + t.count,
         };
     }
-    let refusal = tell(&table[0..used], out, t.answer, Said::NOTHING, 0);
+    let refusal = tell(&table[0..used], out, t.answer, Kind::NOTHING, 0);
     Answered {
         used,
         count: refusal,

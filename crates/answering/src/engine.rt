@@ -10,6 +10,7 @@ ghost use Rattle.answering.specs.Session.{workMost, opening, opened, ope
 ghost use Rattle.answering.specs.Kept.{lineRoom, Says};
 use crate::texts::fill_text;
 use answers::Answer;
+use answers::Kind;
 use table::Shape;
 
 // The number of words in use, and answer, kind and value.
@@ -18,11 +19,6 @@ pub struct Said {
     pub answer: u32,
     pub kind: u32,
     pub value: u32,
-}
-
-impl Said {
-    // Kind and value where there is nothing to say.
-    pub const NOTHING: u32 = 3;
 }
 
 pub fn open_table(table: &mut [u32], used: usize, n: u32) -> Said
@@ -36,7 +32,7 @@ pub fn open_table(table: &mut [u32], used: usize, n: u32) -> Said
         return Said {
             used,
             answer: Answer::TABLE_SIZE,
-            kind: Said::NOTHING,
+            kind: Kind::NOTHING,
             value: 0,
         };
     }
@@ -44,7 +40,7 @@ pub fn open_table(table: &mut [u32], used: usize, n: u32) -> Said
     Said {
         used: words,
         answer,
-        kind: Said::NOTHING,
+        kind: Kind::NOTHING,
         value: 0,
     }
 }
@@ -63,7 +59,7 @@ pub fn operate(
     ensures { λ r. ⌜ Says (operated (performing (take used (now (table .entry))) code a b v)) r (now (table .exit)) ⌝ }
 {
     let script = [code, a, b, v];
-    let mut results = [Said::NOTHING, 0];
+    let mut results = [Kind::NOTHING, 0];
     let r = scripts::run(&mut table[0..used], work, &script, &mut results);
     Said {
         used,
@@ -94,7 +90,7 @@ pub fn read_text(
     Said {
         used,
         answer: r.answer,
-        kind: Said::NOTHING,
+        kind: Kind::NOTHING,
         value: 0,
     }
 }

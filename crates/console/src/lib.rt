@@ -7,6 +7,7 @@ ghost use Rattle.answering.specs.Kept.{Prints};
 ghost use Rattle.console.specs.Serving.{closing};
 ghost use Rattle.console.specs.Standing.{start, mid, Standing, Stepped, Served};
 use answering::answer::answer;
+use entry::Work;
 use libc::STDERR_FILENO;
 use libc::STDOUT_FILENO;
 use lines::gather::Gathered;
@@ -180,7 +181,7 @@ pub fn session(fd: i32) {
     let mut chunk = [0u8; 65536];
     let mut line = [0u8; Line::MOST];
     let mut table = [0u32; Shape::WORDS_MOST];
-    let mut work = [0u32; 2 * Cell::MOST];
+    let mut work = [0u32; Work::WORDS * Cell::MOST];
     let mut out = [0u8; PRINTED];
     run(fd, &mut chunk, &mut line, &mut table, &mut work, &mut out);
 }

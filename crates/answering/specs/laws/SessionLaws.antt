@@ -4,18 +4,18 @@ use mathlib.Core.Bool.{Bool, true, false, cond}
 use mathlib.Core.List.{List, [], _∷_, _++_, append-nil}
 use Prim.Native.Nat.{ℕ, _+_, _*_, _≤_}
 use native.Mathlib.Omega.{arith}
-use lib.Dec.{ltb}
+use lib.Dec.{eqb}
 use lib.ListN.{length, getD, take, drop, replicate, length-append, length-replicate}
 use lib.Seq.{sets-eq, length-sets, take-at}
-use Rattle.answers.specs.Answers.{TABLE-SIZE, WORK-SPACE, SCRIPT, RESULTS, UNSOUND}
+use Rattle.answers.specs.Answers.{DONE, TABLE-SIZE, UNSOUND}
 use Rattle.pool.specs.Script.{performed}
-use Rattle.table.specs.Sizes.{sizesFit, cellsOf}
+use Rattle.table.specs.Sizes.{sizesFit}
 use Rattle.table.specs.View.{four, wordCount}
 use Rattle.setup.specs.laws.SetUpLaws.{accepted, refused}
 use Rattle.calls.specs.SetUp.{Given, setUp}
 use Rattle.calls.specs.Contracts.{SetsUp}
-use Rattle.calls.specs.Entry.{badTable, shown, unsound, used as clearedWork}
-use Rattle.calls.specs.Run.{Ran, ran, ranIn, ranTo, notRun, badScript, badResults, operations}
+use Rattle.calls.specs.Entry.{workWords, entryFault, shown, unsound, used as clearedWork}
+use Rattle.calls.specs.Run.{Ran, ran, ranIn, ranTo, notRun, scriptFault, operations}
 use Rattle.lines.specs.Commands.{Command, command}
 use Rattle.lines.specs.Splitting.{ready}
 use Rattle.lines.specs.Meaning.{Puts}
@@ -84,17 +84,26 @@ pub record Alike (g h : Ran) : Type 0 where
 
 pub any-work : (ts ws us ss rs : List ℕ) → length ws ≡ length us → Alike (ran ts ws ss rs) (ran ts us ss rs)
 unfolding ranIn
-any-work ts ws us ss rs l = rw l (go (badTable Four ts) (ltb (length us) (2 * cellsOf Four ts)) (badScript ss) (badResults ss rs) (unsound Four ts))
+any-work ts ws us ss rs l = rw l (go (eqb (entryFault workWords Four ts (length us)) DONE) (eqb (scriptFault ss rs) DONE) (unsound Four ts))
   where
-    go : (a b c d e : Bool) → Alike
-        (cond a (notRun TABLE-SIZE ts ws rs) (cond b (notRun WORK-SPACE ts ws rs) (cond c (notRun SCRIPT ts ws rs) (cond d (notRun RESULTS ts ws rs) (cond e (notRun UNSOUND ts (clearedWork Four ts ws) rs) (ranTo Four (performed (shown Four ts) (operations ss)) ts ws rs))))))
-        (cond a (notRun TABLE-SIZE ts us rs) (cond b (notRun WORK-SPACE ts us rs) (cond c (notRun SCRIPT ts us rs) (cond d (notRun RESULTS ts us rs) (cond e (notRun UNSOUND ts (clearedWork Four ts us) rs) (ranTo Four (performed (shown Four ts) (operations ss)) ts us rs))))))
-    go true b c d e = record { answer = refl; table = refl; results = refl }
-    go false true c d e = record { answer = refl; table = refl; results = refl }
-    go false false true d e = record { answer = refl; table = refl; results = refl }
-    go false false false true e = record { answer = refl; table = refl; results = refl }
-    go false false false false true = record { answer = refl; table = refl; results = refl }
-    go false false false false false = record { answer = refl; table = refl; results = refl }
+    n : ℕ
+    n = entryFault workWords Four ts (length us)
+
+    k : ℕ
+    k = scriptFault ss rs
+
+    -- the tests in their order, by their outcomes
+    tried : Bool → Bool → Bool → List ℕ → Ran
+    tried a b c vs =
+        cond a
+        (cond b (cond c (notRun UNSOUND ts (clearedWork Four ts vs) rs) (ranTo Four (performed (shown Four ts) (operations ss)) ts vs rs)) (notRun k ts vs rs))
+        (notRun n ts vs rs)
+
+    go : (a b c : Bool) → Alike (tried a b c ws) (tried a b c us)
+    go true true true = record { answer = refl; table = refl; results = refl }
+    go true true false = record { answer = refl; table = refl; results = refl }
+    go true false c = record { answer = refl; table = refl; results = refl }
+    go false b c = record { answer = refl; table = refl; results = refl }
 
 -- an operation leaves the front of the lent words; a part of k words that is lent starts at 0
 pub operates : (ts ws front rest rs : List ℕ) (used k c a b v answer : ℕ) → k ≡ used → length front ≡ used → length ws ≡ workMost

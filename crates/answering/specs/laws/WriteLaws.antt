@@ -3,24 +3,23 @@ use mathlib.Core.Path.{_≡_, refl, sym, ap, ap₂, _∙_}
 use mathlib.Core.Logic.{_≢_}
 use mathlib.Core.Bool.{Bool, true, false, cond}
 use mathlib.Core.List.{List, [], _∷_, _++_, append-assoc, append-nil}
-use Prim.Native.Nat.{ℕ, _+_, _*_, _≤_, _<_}
+use Prim.Native.Nat.{ℕ, _+_, _≤_, _<_}
 use native.Mathlib.Omega.{arith}
 use native.Mathlib.Numerals.{add-one}
 use borrow.Author.Tests.{eq-eqb, ne-eqb, eqb-false}
-use lib.Dec.{eqb, ltb}
+use lib.Dec.{eqb}
 use lib.ListN.{length, set, take, drop, replicate, length-append, length-replicate, length-drop, length-set}
 use lib.Seq.{take-at, take-suc-set, length-take-le, take-append-add, take-append-le}
-use Rattle.answers.specs.Answers.{DONE, TABLE-SIZE, WORK-SPACE, UNSOUND, HOLDER}
+use Rattle.answers.specs.Answers.{DONE, UNSOUND, HOLDER}
 use Rattle.lists.specs.Lst.{Lst}
 use Rattle.pool.specs.Operations.{listOf}
-use Rattle.table.specs.Sizes.{cellsOf}
 use Rattle.text.specs.Limits.{textMost}
 use Rattle.text.specs.ListText.{textOf, written, fill}
 use Rattle.text.specs.Writing.{usable, judged}
-use Rattle.calls.specs.Entry.{badTable, noHolder, shown, unsound, used, over}
+use Rattle.calls.specs.Entry.{workWords, entryFault, noHolder, shown, unsound, used, over}
 use Rattle.calls.specs.Write.{Write, notWritten, writeOut, writingIn}
 use Rattle.answers.specs.declared.Outcome.{Outcome}
-use Rattle.calls.specs.Contracts.{wrote}
+use Rattle.calls.specs.Contracts.{Writes as Written}
 use Rattle.lines.specs.Commands.{writing}
 use Rattle.lines.specs.Printed.{lineFeed, reply}
 use Rattle.answering.specs.declared.texts.Texted.{Texted}
@@ -35,18 +34,19 @@ use Rattle.table.specs.declared.Form.the-variants.{Four}
 abbrev judgedAs : ℕ → Lst → List ℕ → List ℕ → Write
 judgedAs n l ws out = cond (eqb n DONE) (record { answer = DONE; count = length (written l); work = ws; output = over (written l) out }) (notWritten n ws out)
 
-abbrev tried : Bool → Bool → Bool → Bool → ℕ → Lst → List ℕ → List ℕ → List ℕ → Write
-tried a b c d n l ws us out =
-    cond a (notWritten TABLE-SIZE ws out)
-    (cond b (notWritten WORK-SPACE ws out)
-    (cond c (notWritten HOLDER ws out)
-    (cond d (notWritten UNSOUND us out) (judgedAs n l us out))))
+abbrev tried : Bool → Bool → Bool → ℕ → ℕ → Lst → List ℕ → List ℕ → List ℕ → Write
+tried a b c k n l ws us out =
+    cond a
+    (cond b (notWritten HOLDER ws out)
+    (cond c (notWritten UNSOUND us out) (judgedAs n l us out)))
+    (notWritten k ws out)
 
 -- neither the work space's words nor the bytes lent matter to the answer
 pub any-lent : (ts ws us out texts : List ℕ) (h : ℕ) → length ws ≡ length us → length out ≡ length texts → writeOut ts ws h out .answer ≡ writeOut ts us h texts .answer
 unfolding writingIn
 any-lent ts ws us out texts h e q =
-    rw (e, q) (go (badTable Four ts) (ltb (length us) (2 * cellsOf Four ts)) (noHolder Four ts h) (unsound Four ts) (judged (usable (length texts)) 0 (textOf (listOf (shown Four ts) h))))
+    rw (e, q) (go (eqb (entryFault workWords Four ts (length us)) DONE) (noHolder Four ts h) (unsound Four ts)
+    (judged (usable (length texts)) 0 (textOf (listOf (shown Four ts) h))))
   where
     l : Lst
     l = listOf (shown Four ts) h
@@ -57,12 +57,14 @@ any-lent ts ws us out texts h e q =
     last true n vs xs = refl
     last false n vs xs = refl
 
-    go : (a b c d : Bool) (n : ℕ) → tried a b c d n l ws (used Four ts ws) out .answer ≡ tried a b c d n l us (used Four ts us) texts .answer
-    go true b c d n = refl
-    go false true c d n = refl
-    go false false true d n = refl
-    go false false false true n = refl
-    go false false false false n = last (eqb n DONE) n ws us
+    k : ℕ
+    k = entryFault workWords Four ts (length us)
+
+    go : (a b c : Bool) (n : ℕ) → tried a b c k n l ws (used Four ts ws) out .answer ≡ tried a b c k n l us (used Four ts us) texts .answer
+    go false b c n = refl
+    go true true c n = refl
+    go true false true n = refl
+    go true false false n = last (eqb n DONE) n ws us
 
 pub record Wrote (l : Lst) (out : List ℕ) (w : Write) : Type 0 where
   pub count : w .count ≡ length (written l)
@@ -70,7 +72,9 @@ pub record Wrote (l : Lst) (out : List ℕ) (w : Write) : Type 0 where
 
 pub written-whole : (ts ws out : List ℕ) (h : ℕ) → writeOut ts ws h out .answer ≡ DONE → Wrote (listOf (shown Four ts) h) out (writeOut ts ws h out)
 unfolding writingIn
-written-whole ts ws out h = go (badTable Four ts) (ltb (length ws) (2 * cellsOf Four ts)) (noHolder Four ts h) (unsound Four ts) (judged (usable (length out)) 0 (textOf (listOf (shown Four ts) h)))
+written-whole ts ws out h =
+    go (eqb (entryFault workWords Four ts (length ws)) DONE) refl (noHolder Four ts h) (unsound Four ts)
+    (judged (usable (length out)) 0 (textOf (listOf (shown Four ts) h)))
   where
     l : Lst
     l = listOf (shown Four ts) h
@@ -81,25 +85,32 @@ written-whole ts ws out h = go (badTable Four ts) (ltb (length ws) (2 * cellsOf 
     last n true e q = record { count = refl; output = refl }
     last n false e q = absurd (eqb-false n DONE e q)
 
-    go : (a b c d : Bool) (n : ℕ) → tried a b c d n l ws (used Four ts ws) out .answer ≡ DONE → Wrote l out (tried a b c d n l ws (used Four ts ws) out)
-    go true b c d n q = absurd (omega (arith, q))
-    go false true c d n q = absurd (omega (arith, q))
-    go false false true d n q = absurd (omega (arith, q))
-    go false false false true n q = absurd (omega (arith, q))
-    go false false false false n q = last n (eqb n DONE) refl q
+    k : ℕ
+    k = entryFault workWords Four ts (length ws)
+
+    go : (a : Bool) → eqb k DONE ≡ a → (b c : Bool) (n : ℕ) → tried a b c k n l ws (used Four ts ws) out .answer ≡ DONE
+        → Wrote l out (tried a b c k n l ws (used Four ts ws) out)
+    go false e b c n q = absurd (eqb-false k DONE e q)
+    go true e true c n q = absurd (omega (arith, q))
+    go true e false true n q = absurd (omega (arith, q))
+    go true e false false n q = last n (eqb n DONE) refl q
 
 -- what the call answers and leaves, in lent bytes that held `old`
 pub record Writes (ts : List ℕ) (h : ℕ) (o : Outcome) (old new : List ℕ) : Type 0 where
   pub answer : o .answer ≡ writingOf ts h .answer
   pub text : o .answer ≡ DONE → (o .count ≡ length (written (listOf (shown Four ts) h))) × (new ≡ over (written (listOf (shown Four ts) h)) old)
 
-pub writes : (ts ws vs old new : List ℕ) (h : ℕ) (o : Outcome) → length ws ≡ workMost → length old ≡ textMost → wrote o vs new ≡ writeOut ts ws h old → Writes ts h o old new
+pub writes : (ts ws vs old new : List ℕ) (h : ℕ) (o : Outcome) → length ws ≡ workMost → length old ≡ textMost
+    → Written o vs new (writeOut ts ws h old) → Writes ts h o old new
 writes ts ws vs old new h o e q p =
     let us : List ℕ = replicate workMost 0 in
     let texts : List ℕ = replicate textMost 0 in
     record {
-      answer = ap (λ (w : Write). w .answer) p ∙ any-lent ts ws us old texts h (e ∙ sym (length-replicate {A = ℕ} workMost 0)) (q ∙ sym (length-replicate {A = ℕ} textMost 0));
-      text = λ d. let t = written-whole ts ws old h (sym (ap (λ (w : Write). w .answer) p) ∙ d) in (ap (λ (w : Write). w .count) p ∙ t .count, ap (λ (w : Write). w .output) p ∙ t .output);
+      answer = ap (λ (x : Outcome). x .answer) (p .outcome)
+          ∙ any-lent ts ws us old texts h (e ∙ sym (length-replicate {A = ℕ} workMost 0)) (q ∙ sym (length-replicate {A = ℕ} textMost 0));
+      text = λ d.
+          let t = written-whole ts ws old h (sym (ap (λ (x : Outcome). x .answer) (p .outcome)) ∙ d) in
+          (ap (λ (x : Outcome). x .count) (p .outcome) ∙ t .count, p .output ∙ t .output);
     }
 
 -- the text at the start of the lent bytes, and what is behind it

@@ -39,7 +39,9 @@ finish-requires c κs =
     turn .loop .inv .0
 
 write-requires : tie.Need-write-requires Inv-loop μ-loop
-write-requires c κs = c .before .before .before .before .before .before .before .finish .ensures .fits
+write-requires c κs =
+    let after-finish = c .before .before .before .before .before .before .before in
+    after-finish .finish .ensures .fits
 
 same-length : tie.Need-same-length Inv-loop μ-loop
 same-length c = search needs

@@ -19,11 +19,14 @@ abbrev μ-loop : tie.MeasureT-loop
 abbrev loop-of : tie.Then1 Inv-loop μ-loop → tie.At-loop Inv-loop μ-loop
 loop-of c = c .before .before
 
+abbrev start-of : tie.At-loop Inv-loop μ-loop → tie.Start Inv-loop μ-loop
+start-of c = c .before .before .before .before .before .before
+
 abbrev then1-of : tie.After-step Inv-loop μ-loop → tie.Then1 Inv-loop μ-loop
 then1-of c = c .before .before .before .before .before
 
 -- the chunk has bytes left
-within : (c : tie.Then1 Inv-loop μ-loop) → loop-of c .loop .s .at < length (loop-of c .before .before .before .before .before .before .args .chunk .now)
+within : (c : tie.Then1 Inv-loop μ-loop) → loop-of c .loop .s .at < length (start-of (loop-of c) .args .chunk .now)
 within c = omega (arith, loop-of c .loop .inv .0, c .if1 .taken)
 
 loop-holds : tie.Need-loop-holds Inv-loop μ-loop
@@ -38,7 +41,10 @@ step-requires c κs =
     (i .1 .at, i .1 .standing)
 
 write-requires : tie.Need-write-requires Inv-loop μ-loop
-write-requires c κs = c .before .before .before .before .before .before .before .before .before .step .ensures .wrote
+write-requires c κs =
+    let after-table = c .before .before .before .before .before .before in
+    let after-step = after-table .before .before .before in
+    after-step .step .ensures .wrote
 
 loop-less : tie.Need-loop-less Inv-loop μ-loop
 loop-less c =
@@ -73,7 +79,7 @@ same-length-4 c = search needs
 returns : tie.Need-returns Inv-loop μ-loop
 returns c =
     let turn = c .before .before in
-    let chunk = turn .before .before .before .before .before .before .args .chunk .now in
+    let chunk = start-of turn .args .chunk .now in
     let i = turn .loop .inv in
     (i .1 .standing, served-all _ _ chunk (turn .loop .s .at) (omega (arith, i .0)) (i .1 .served))
 
