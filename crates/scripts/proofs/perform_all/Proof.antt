@@ -24,6 +24,13 @@ room c =
     let c0 = c .before .before .before .before .before in
     (omega (arith, c .loop-test, c0 .pre .1 .1 .whole), omega (arith, c .loop-test, c0 .pre .1 .1, c .before .loop .inv .0 .size))
 
+-- the turn in which results are written
+turn-of : tie.After-slice-known4 Inv-loop μ-loop → tie.In-loop Inv-loop μ-loop
+turn-of c =
+    let after-reply2 = c .before .before .before .before .before in
+    let after-perform-at = after-reply2 .before .before .before .before in
+    after-perform-at .before .before
+
 loop-holds : tie.Need-loop-holds Inv-loop μ-loop
 loop-holds c = (begun (c .before .before .before .args .s) (c .before .before .before .args .script .now) (c .before .before .before .args .results .now) (c .before .before .before .args .table .now) (c .before .before .before .pre .0) (c .before .before .before .pre .1 .0), omega arith)
 
@@ -65,10 +72,7 @@ write-at-requires c κs =
     room (after-table .before .before .before) .1
 
 add-i : tie.Need-add-i Inv-loop μ-loop
-add-i c =
-    let after-reply2 = c .before .before .before .before .before in
-    let after-perform-at = after-reply2 .before .before .before .before in
-    omega (arith, room (after-perform-at .before .before) .0)
+add-i c = omega (arith, room (turn-of c) .0)
 
 loop-less : tie.Need-loop-less Inv-loop μ-loop
 loop-less c =
