@@ -1,4 +1,5 @@
--- The answer numbers of document 01 by their names, and what a call gives besides what it lends: an answer and a number.
+-- The answer numbers of document 01 by their names, and what a call gives besides what it lends: an answer and a
+-- number.
 use mathlib.Core.Bool.{cond}
 use Prim.Native.Nat.{ℕ}
 use lib.Dec.{eqb}

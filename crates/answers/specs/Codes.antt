@@ -1,4 +1,5 @@
--- The words of a script and of its results: the operations by their codes, the kinds of results, and how many words each operation has.
+-- The words of a script and of its results: the operations by their codes, the kinds of results, and how many words
+-- each operation has.
 use Prim.Native.Nat.{ℕ, _*_}
 
 abbrev pub PFA : ℕ

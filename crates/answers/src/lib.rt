@@ -1,4 +1,5 @@
-// The numbers that the calls go by: answers, codes of operations, kinds of results, and the answer of a call with the number beside it.
+// The numbers that the calls go by: answers, codes of operations, kinds of results, and the answer of a call with the
+// number beside it.
 ghost use mathlib.Core.Path.{_≡_};
 ghost use Rattle.answers.specs.Answers.{refused, done, outcome};
 

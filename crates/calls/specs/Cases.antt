@@ -1,5 +1,6 @@
--- The cases of document 01 that are marked P, and one more with two cells waiting: one table under one theorem about the definitions. Each text
--- is filled to a record and checked; if it is a list it is read into holder 0 of a new pool, and operations are performed on that.
+-- The cases of document 01 that are marked P, and one more with two cells waiting: one table under one theorem about
+-- the definitions. Each text is filled to a record and checked; if it is a list it is read into holder 0 of a new pool,
+-- and operations are performed on that.
 use Prim.Native.String.{String}
 use mathlib.Core.Path.{_≡_, refl}
 use mathlib.Core.Bool.{cond}
@@ -8,7 +9,6 @@ use Prim.Native.Nat.{ℕ, zero, suc}
 use lib.Dec.{eqb}
 use lib.ListN.{length, replicate}
 use Rattle.answers.specs.Answers.{DONE}
-use Rattle.answers.specs.Codes.{atomKind}
 use Rattle.lists.specs.Lst.{Lst, len, order, extent, onto, reversed}
 use Rattle.pool.specs.Erase.{dropping, visit, step, total, dropped}
 use Rattle.pool.specs.Operations.{read, laid, fresh, pfl, erase, span, load, listFrom, listOf}
@@ -29,8 +29,8 @@ pub record Case : Type 0 where
   pub cells : ℕ
   pub script : List ℕ
 
--- the check's answer; the list's length, order, extent and number of characters; its text and that of the list reversed; what the operations
--- say, the text of what holder 0 then has, and the free chain
+-- the check's answer; the list's length, order, extent and number of characters; its text and that of the list
+-- reversed; what the operations say, the text of what holder 0 then has, and the free chain
 pub record Row : Type 0 where
   pub answer : ℕ
   pub figures : List ℕ
@@ -64,7 +64,9 @@ abbrev row : Case → Row
 row c =
     let xs = over (chars (c .text)) (replicate recordBytes 32) in
     let l = listIn xs in
-    cond (eqb (verdict xs .no) DONE) (listRow l (performed (read (fresh (c .cells) holdersMost) 0 l) (operations (c .script)))) (refusedRow (verdict xs .no))
+    cond (eqb (verdict xs .no) DONE)
+    (listRow l (performed (read (fresh (c .cells) holdersMost) 0 l) (operations (c .script))))
+    (refusedRow (verdict xs .no))
 
 abbrev of-text : String → Case
 of-text s = record { text = s; cells = 6; script = [] }
@@ -89,14 +91,30 @@ cases =
 
 -- a list on which nothing is performed
 abbrev stays : List ℕ → String → String → List ℕ → Row
-stays figures text backwards free = record { answer = DONE; figures = figures; text = chars text; backwards = chars backwards; results = []; after = chars text; free = free }
+stays figures text backwards free = record {
+  answer = DONE;
+  figures = figures;
+  text = chars text;
+  backwards = chars backwards;
+  results = [];
+  after = chars text;
+  free = free;
+}
 
 abbrev pub stated : List Row
 stated =
     stays (0 ∷ 1 ∷ 0 ∷ 2 ∷ []) "()" "()" (1 ∷ 2 ∷ 3 ∷ 4 ∷ 5 ∷ 6 ∷ []) ∷
     stays (1 ∷ 2 ∷ 1 ∷ 4 ∷ []) "(())" "(())" (2 ∷ 3 ∷ 4 ∷ 5 ∷ 6 ∷ []) ∷
     stays (3 ∷ 2 ∷ 6 ∷ 13 ∷ []) "((3),1,(1,2))" "((1,2),1,(3))" [] ∷
-    record { answer = DONE; figures = 1 ∷ 1 ∷ 1 ∷ 4 ∷ []; text = chars "(12)"; backwards = chars "(12)"; results = atomKind ∷ 10 ∷ []; after = chars "(12)"; free = 2 ∷ 3 ∷ 4 ∷ 5 ∷ 6 ∷ [] } ∷
+    record {
+      answer = DONE;
+      figures = 1 ∷ 1 ∷ 1 ∷ 4 ∷ [];
+      text = chars "(12)";
+      backwards = chars "(12)";
+      results = 0 ∷ 10 ∷ [];
+      after = chars "(12)";
+      free = 2 ∷ 3 ∷ 4 ∷ 5 ∷ 6 ∷ [];
+    } ∷
     stays (1 ∷ 1 ∷ 1 ∷ 13 ∷ []) "(37777777777)" "(37777777777)" (2 ∷ 3 ∷ 4 ∷ 5 ∷ 6 ∷ []) ∷
     refusedRow 16 ∷
     refusedRow 16 ∷
@@ -104,9 +122,33 @@ stated =
     refusedRow 15 ∷
     refusedRow 15 ∷
     refusedRow 15 ∷
-    record { answer = DONE; figures = 2 ∷ 2 ∷ 3 ∷ 7 ∷ []; text = chars "((3),1)"; backwards = chars "(1,(3))"; results = 2 ∷ 3 ∷ []; after = chars "()"; free = 2 ∷ 1 ∷ 3 ∷ 4 ∷ [] } ∷
-    record { answer = DONE; figures = 2 ∷ 2 ∷ 4 ∷ 9 ∷ []; text = chars "((1),(2))"; backwards = chars "((2),(1))"; results = 2 ∷ 4 ∷ []; after = chars "()"; free = 2 ∷ 1 ∷ 4 ∷ 3 ∷ [] } ∷
-    record { answer = DONE; figures = 0 ∷ 1 ∷ 0 ∷ 2 ∷ []; text = chars "()"; backwards = chars "()"; results = 3 ∷ 0 ∷ []; after = chars "(())"; free = [] } ∷
+    record {
+      answer = DONE;
+      figures = 2 ∷ 2 ∷ 3 ∷ 7 ∷ [];
+      text = chars "((3),1)";
+      backwards = chars "(1,(3))";
+      results = 2 ∷ 3 ∷ [];
+      after = chars "()";
+      free = 2 ∷ 1 ∷ 3 ∷ 4 ∷ [];
+    } ∷
+    record {
+      answer = DONE;
+      figures = 2 ∷ 2 ∷ 4 ∷ 9 ∷ [];
+      text = chars "((1),(2))";
+      backwards = chars "((2),(1))";
+      results = 2 ∷ 4 ∷ [];
+      after = chars "()";
+      free = 2 ∷ 1 ∷ 4 ∷ 3 ∷ [];
+    } ∷
+    record {
+      answer = DONE;
+      figures = 0 ∷ 1 ∷ 0 ∷ 2 ∷ [];
+      text = chars "()";
+      backwards = chars "()";
+      results = 3 ∷ 0 ∷ [];
+      after = chars "(())";
+      free = [];
+    } ∷
     []
 
 pub edges : map row cases ≡ stated

@@ -1,4 +1,5 @@
--- What the code of a call has to show: its answer, the number beside it and every lent word afterwards are those of the definition.
+-- What the code of a call has to show: its answer, the number beside it and every lent word afterwards are those of the
+-- definition.
 use mathlib.Core.Path.{_≡_}
 use mathlib.Core.List.{List}
 use Prim.Native.Nat.{ℕ}

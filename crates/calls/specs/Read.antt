@@ -1,5 +1,5 @@
--- What reading a text into a holder gives, for all words and bytes: every refusal comes before anything is changed, and the earliest text
--- fault before NO ROOM.
+-- What reading a text into a holder gives, for all words and bytes: every refusal comes before anything is changed, and
+-- the earliest text fault before NO ROOM.
 use mathlib.Core.Bool.{cond, not}
 use mathlib.Core.List.{List}
 use Prim.Native.Nat.{ℕ}

@@ -1,5 +1,5 @@
--- What a script run gives, for all words: TABLE SIZE and WORK SPACE, SCRIPT and RESULTS, and UNSOUND, once and in this order, and then
--- operation by operation.
+-- What a script run gives, for all words: TABLE SIZE and WORK SPACE, SCRIPT and RESULTS, and UNSOUND, once and in this
+-- order, and then operation by operation.
 use mathlib.Core.Bool.{Bool, cond, not, _||_}
 use mathlib.Core.List.{List, [], _∷_}
 use Prim.Native.Nat.{ℕ, _*_, _/_, _%_}

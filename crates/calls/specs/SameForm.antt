@@ -1,5 +1,5 @@
--- A table stands for another of any form that shows the same pool. Every script run, reading and writing on the two gives the same answer,
--- numbers, results, work space and output, and leaves tables that stand for each other again.
+-- A table stands for another of any form that shows the same pool. Every script run, reading and writing on the two
+-- gives the same answer, numbers, results, work space and output, and leaves tables that stand for each other again.
 use mathlib.Core.Path.{_≡_, refl, sym, ap, ap₂, _∙_, subst}
 use mathlib.Core.Bool.{Bool, true, false, cond, not, false≢true}
 use mathlib.Core.List.{List}
@@ -45,7 +45,8 @@ pub record Stores (f : Form) (ts : List ℕ) (p : Pool) : Type 0 where
   pub table : Table (shapeOf f (stored f ts p)) (stored f ts p)
   pub shows : shown f (stored f ts p) ≡ p
 
-pub stores : (f : Form) (ts : List ℕ) (p : Pool) → Table (shapeOf f ts) ts → Alike (shown f ts) p → Sound p → Stores f ts p
+pub stores : (f : Form) (ts : List ℕ) (p : Pool) → Table (shapeOf f ts) ts → Alike (shown f ts) p → Sound p
+    → Stores f ts p
 stores f ts p t a h =
     let s : Shape = shapeOf f ts in
     let u = stored-shows s ts p t (a .holders) (a .cells) h in
@@ -82,34 +83,46 @@ module _ (f g : Form) (ts us : List ℕ) (k : StandsFor f g ts us) where
     unfolding ranIn
     runs-same =
         entry (entryFault workWords g us (length ws)) (same-entry workWords (length ws))
-        (either (eqb (scriptFault ss rs) DONE) (sound (check (shown f ts)) (check (shown g us)) refl (ap check (k .same))) (refusals (scriptFault ss rs)))
+        (either (eqb (scriptFault ss rs) DONE) (sound (check (shown f ts)) (check (shown g us)) refl
+        (ap check (k .same))) (refusals (scriptFault ss rs)))
       where
         either : (b : Bool) {q r x y : Ran} → SameRun f g q r → SameRun f g x y → SameRun f g (cond b q x) (cond b r y)
         either true m n = m
         either false m n = n
 
         entry : (n : ℕ) → entryFault workWords f ts (length ws) ≡ n → {x y : Ran} → SameRun f g x y
-            → SameRun f g (unless (entryFault workWords f ts (length ws)) (λ m. notRun m ts ws rs) x) (unless n (λ m. notRun m us ws rs) y)
+            → SameRun f g (unless (entryFault workWords f ts (length ws)) (λ m. notRun m ts ws rs) x)
+            (unless n (λ m. notRun m us ws rs) y)
         entry n e {x} {y} s =
-            subst (λ (m : ℕ). SameRun f g (unless (entryFault workWords f ts (length ws)) (λ j. notRun j ts ws rs) x) (unless m (λ j. notRun j us ws rs) y)) e
-            (either (eqb (entryFault workWords f ts (length ws)) DONE) s (refusals (entryFault workWords f ts (length ws))))
+            subst (λ (m : ℕ). SameRun f g (unless (entryFault workWords f ts (length ws)) (λ j. notRun j ts ws rs) x)
+            (unless m (λ j. notRun j us ws rs) y)) e
+            (either (eqb (entryFault workWords f ts (length ws)) DONE) s
+            (refusals (entryFault workWords f ts (length ws))))
 
         unsounds : SameRun f g (notRun UNSOUND ts (used f ts ws) rs) (notRun UNSOUND us (used g us ws) rs)
         unsounds = record { answer = refl; count = refl; work = same-used; results = refl; tables = k }
 
-        done : Sound (shown f ts) → SameRun f g (ranTo f (performed (shown f ts) (operations ss)) ts ws rs) (ranTo g (performed (shown g us) (operations ss)) us ws rs)
+        done : Sound (shown f ts)
+            → SameRun f g (ranTo f (performed (shown f ts) (operations ss)) ts ws rs)
+            (ranTo g (performed (shown g us) (operations ss)) us ws rs)
         done h =
-            subst (λ (p : Pool). SameRun f g (ranTo f (performed (shown f ts) (operations ss)) ts ws rs) (ranTo g (performed p (operations ss)) us ws rs)) (k .same)
+            subst (λ (p : Pool). SameRun f g (ranTo f (performed (shown f ts) (operations ss)) ts ws rs)
+            (ranTo g (performed p (operations ss)) us ws rs)) (k .same)
             (record {
               answer = refl;
               count = refl;
               work = same-used;
               results = refl;
-              tables = same-stored (performed (shown f ts) (operations ss) .pool) (performed-alike (operations ss) (shown f ts)) (performed-sound (operations ss) (shown f ts) h);
+              tables =
+                  same-stored (performed (shown f ts) (operations ss) .pool)
+                  (performed-alike (operations ss) (shown f ts)) (performed-sound (operations ss) (shown f ts) h);
             })
 
         sound : (b c : Bool) → check (shown f ts) ≡ b → b ≡ c
-            → SameRun f g (cond (not b) (notRun UNSOUND ts (used f ts ws) rs) (ranTo f (performed (shown f ts) (operations ss)) ts ws rs)) (cond (not c) (notRun UNSOUND us (used g us ws) rs) (ranTo g (performed (shown g us) (operations ss)) us ws rs))
+            → SameRun f g (cond (not b) (notRun UNSOUND ts (used f ts ws) rs)
+            (ranTo f (performed (shown f ts) (operations ss)) ts ws rs))
+            (cond (not c) (notRun UNSOUND us (used g us ws) rs)
+            (ranTo g (performed (shown g us) (operations ss)) us ws rs))
         sound true true p e = done (check-decides (shown f ts) .0 p)
         sound false false p e = unsounds
         sound true false p e = absurd (false≢true (sym e))

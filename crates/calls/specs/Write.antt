@@ -1,4 +1,5 @@
--- What writing the list of a holder gives, for all words and bytes: DEEP and OUTPUT are judged before a byte is written.
+-- What writing the list of a holder gives, for all words and bytes: DEEP and OUTPUT are judged before a byte is
+-- written.
 use mathlib.Core.Bool.{cond}
 use mathlib.Core.List.{List}
 use Prim.Native.Nat.{ℕ}

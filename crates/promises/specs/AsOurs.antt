@@ -1,4 +1,5 @@
--- The promises leave one engine: whoever keeps them gives for every input what ours gives, the answer, the number and every lent word.
+-- The promises leave one engine: whoever keeps them gives for every input what ours gives, the answer, the number and
+-- every lent word.
 use mathlib.Core.Path.{_≡_, refl, sym, ap, _∙_, subst}
 use mathlib.Core.Logic.{_⊎_, inl, inr}
 use mathlib.Core.List.{List}
@@ -30,13 +31,20 @@ use Rattle.table.specs.declared.Form.{Form}
 
 module _ (form : Form) (E : Engine) (K : Keeps form E) where
   same-run : (ts ws ss rs : List ℕ) → E .run ts ws ss rs ≡ ranIn form ts ws ss rs
-  same-run ts ws ss rs = by-parts-run form ts ws ss rs (go (decide 5 rows (λ n. Unit {0}) (ranIn form ts ws ss rs .answer) (ours-keeps form .first .run-refusals ts ws ss rs))) (record { answer = refl; count = refl; table = refl; work = refl; results = refl })
+  same-run ts ws ss rs =
+      by-parts-run form ts ws ss rs (go (decide 5 rows (λ n. Unit {0}) (ranIn form ts ws ss rs .answer)
+      (ours-keeps form .first .run-refusals ts ws ss rs)))
+      (record { answer = refl; count = refl; table = refl; work = refl; results = refl })
     where
       rows : List Row
       rows = runRows form ts ws ss rs
 
       work : E .run ts ws ss rs .work ≡ ranIn form ts ws ss rs .work
-      work = same-work (take 4 rows) ts ws (E .run ts ws ss rs .work) (ranIn form ts ws ss rs .work) (decide 4 rows (λ n. Unit {0}) (ranIn form ts ws ss rs .answer) (ours-keeps form .first .run-refusals ts ws ss rs)) (K .first .run-work ts ws ss rs) (ours-keeps form .first .run-work ts ws ss rs)
+      work =
+          same-work (take 4 rows) ts ws (E .run ts ws ss rs .work) (ranIn form ts ws ss rs .work)
+          (decide 4 rows (λ n. Unit {0}) (ranIn form ts ws ss rs .answer)
+          (ours-keeps form .first .run-refusals ts ws ss rs)) (K .first .run-work ts ws ss rs)
+          (ours-keeps form .first .run-work ts ws ss rs)
 
       go : None rows ⊎ (None rows → ⊥) → RanAs (ranIn form ts ws ss rs) (E .run ts ws ss rs)
       go (inl n) =
@@ -55,7 +63,9 @@ module _ (form : Form) (E : Engine) (K : Keeps form E) where
           let (t, q, c) = K .first .refused-run ts ws ss rs n in
           let (t′, q′, c′) = ours-keeps form .first .refused-run ts ws ss rs n in
           record {
-            answer = same-first rows (λ m. Unit {0}) _ _ (K .first .run-refusals ts ws ss rs) (ours-keeps form .first .run-refusals ts ws ss rs) n;
+            answer =
+                same-first rows (λ m. Unit {0}) _ _ (K .first .run-refusals ts ws ss rs)
+                (ours-keeps form .first .run-refusals ts ws ss rs) n;
             count = c ∙ sym c′;
             table = t ∙ sym t′;
             work = work;
@@ -63,21 +73,37 @@ module _ (form : Form) (E : Engine) (K : Keeps form E) where
           }
 
   same-write : (ts ws : List ℕ) (h : ℕ) (out : List ℕ) → E .write ts ws h out ≡ writingIn form ts ws h out
-  same-write ts ws h out = by-parts-write form ts ws h out (go (ℕ-discrete (writingIn form ts ws h out .answer) DONE)) (record { answer = refl; count = refl; work = refl; output = refl })
+  same-write ts ws h out =
+      by-parts-write form ts ws h out (go (ℕ-discrete (writingIn form ts ws h out .answer) DONE))
+      (record { answer = refl; count = refl; work = refl; output = refl })
     where
       rows : List Row
       rows = writeRows form ts ws h out
 
       answer : E .write ts ws h out .answer ≡ writingIn form ts ws h out .answer
-      answer = one-answer rows _ _ (K .first .write-refusals ts ws h out) (ours-keeps form .first .write-refusals ts ws h out)
+      answer =
+          one-answer rows _ _ (K .first .write-refusals ts ws h out)
+          (ours-keeps form .first .write-refusals ts ws h out)
 
       work : E .write ts ws h out .work ≡ writingIn form ts ws h out .work
-      work = same-work (take 3 rows) ts ws (E .write ts ws h out .work) (writingIn form ts ws h out .work) (decide 3 rows (λ m. m ≡ DONE) (writingIn form ts ws h out .answer) (ours-keeps form .first .write-refusals ts ws h out)) (K .first .write-work ts ws h out) (ours-keeps form .first .write-work ts ws h out)
+      work =
+          same-work (take 3 rows) ts ws (E .write ts ws h out .work) (writingIn form ts ws h out .work)
+          (decide 3 rows (λ m. m ≡ DONE) (writingIn form ts ws h out .answer)
+          (ours-keeps form .first .write-refusals ts ws h out)) (K .first .write-work ts ws h out)
+          (ours-keeps form .first .write-work ts ws h out)
 
       go : Dec (writingIn form ts ws h out .answer ≡ DONE) → WroteAs (writingIn form ts ws h out) (E .write ts ws h out)
       go (yes e) =
-          let (n, _) = first-none rows (λ m. m ≡ DONE) DONE ((λ z. omega arith), ((λ z. omega arith), ((λ z. omega arith), ((λ z. omega arith), ((λ z. omega arith), ((λ z. omega arith), tt)))))) (subst (First rows (λ m. m ≡ DONE)) e (ours-keeps form .first .write-refusals ts ws h out)) in
-          let g = good form ts (fails (badTable form ts) (tells-table form ts) (n .0)) (fails (unsound form ts) (tells-unsound form ts) (n .1 .1 .1 .0)) in
+          let (n, _) = first-none rows (λ m. m ≡ DONE) DONE (
+            (λ z. omega arith),
+            (
+              (λ z. omega arith),
+              ((λ z. omega arith), ((λ z. omega arith), ((λ z. omega arith), ((λ z. omega arith), tt)))),
+            ),
+          )
+          (subst (First rows (λ m. m ≡ DONE)) e (ours-keeps form .first .write-refusals ts ws h out)) in
+          let g = good form ts (fails (badTable form ts) (tells-table form ts) (n .0))
+          (fails (unsound form ts) (tells-unsound form ts) (n .1 .1 .1 .0)) in
           let (l, w) = denoted (shown form ts) (g .sound) h in
           let (o, c) = K .second .writing-gives ts ws h out l w (answer ∙ e) in
           let (o′, c′) = ours-keeps form .second .writing-gives ts ws h out l w e in
@@ -89,7 +115,8 @@ module _ (form : Form) (E : Engine) (K : Keeps form E) where
 
   pub as-ours : E ≡ ours form
   as-ours = λ i. record {
-    setUp = λ ts n h. record { answer = same-set-up-answer form E K ts n h i; table = same-set-up-table form E K ts n h i };
+    setUp =
+        λ ts n h. record { answer = same-set-up-answer form E K ts n h i; table = same-set-up-table form E K ts n h i };
     run = λ ts ws ss rs. same-run ts ws ss rs i;
     read = λ ts ws h xs. same-read form E K ts ws h xs i;
     write = λ ts ws h out. same-write ts ws h out i;

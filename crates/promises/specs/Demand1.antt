@@ -1,6 +1,6 @@
--- Demand 1: a call refuses what the rows name, with the number of its first row, and nothing besides; after a refusal table, results and
--- output are as they were and the numbers 0, and the work space is as lent or begins with 2N zeros; and a script ends where an operation
--- is refused, all before it done.
+-- Demand 1: a call refuses what the rows name, with the number of its first row, and nothing besides; after a refusal
+-- table, results and output are as they were and the numbers 0, and the work space is as lent or begins with 2N zeros;
+-- and a script ends where an operation is refused, all before it done.
 use mathlib.Core.Path.{_≡_}
 use mathlib.Core.Logic.{_≢_}
 use mathlib.Core.List.{List, [], _∷_, _++_}
@@ -27,26 +27,33 @@ wordsOf o = o .code ∷ o .a ∷ o .b ∷ o .v ∷ []
 abbrev pub alone : Engine → List ℕ → List ℕ → Operation → Ran
 alone E ws ts o = E .run ts ws (wordsOf o) (replicate resultWords 0)
 
--- from the table ts the operations give this answer, this number of them done, this table and these results:
--- each is answered by its rows, and one that is refused ends it
-pub data Stops (form : Form) (E : Engine) (ws : List ℕ) : List ℕ → List Operation → ℕ → ℕ → List ℕ → List ℕ → Type 0 where
+-- from the table ts the operations give this answer, this number of them done, this table and these results: each is
+-- answered by its rows, and one that is refused ends it
+pub data Stops (form : Form) (E : Engine) (ws : List ℕ) :
+    List ℕ → List Operation → ℕ → ℕ → List ℕ → List ℕ → Type 0 where
   end : {ts : List ℕ} → Stops form E ws ts [] DONE 0 ts []
-  refused : {ts : List ℕ} {o : Operation} {os : List Operation} {n : ℕ} → Answers (operationRows (shown form ts) o) n → n ≢ DONE → Stops form E ws ts (o ∷ os) n 0 ts []
-  done : {ts us qs : List ℕ} {o : Operation} {os : List Operation} {n k : ℕ} → Answers (operationRows (shown form ts) o) DONE
-      → Stops form E ws (alone E ws ts o .table) os n k us qs → Stops form E ws ts (o ∷ os) n (suc k) us (alone E ws ts o .results ++ qs)
+  refused : {ts : List ℕ} {o : Operation} {os : List Operation} {n : ℕ} → Answers (operationRows (shown form ts) o) n
+      → n ≢ DONE → Stops form E ws ts (o ∷ os) n 0 ts []
+  done : {ts us qs : List ℕ} {o : Operation} {os : List Operation} {n k : ℕ}
+      → Answers (operationRows (shown form ts) o) DONE
+      → Stops form E ws (alone E ws ts o .table) os n k us qs
+      → Stops form E ws ts (o ∷ os) n (suc k) us (alone E ws ts o .results ++ qs)
 
 -- the answer of each call is that of its rows
 abbrev pub SetUpRefusals : (form : Form) → Engine → Type 0
 SetUpRefusals form E = (ts : List ℕ) (n h : ℕ) → Answers (setUpRows form ts n h) (E .setUp ts n h .answer)
 
 abbrev pub RunRefusals : (form : Form) → Engine → Type 0
-RunRefusals form E = (ts ws ss rs : List ℕ) → First (runRows form ts ws ss rs) (λ n. Unit {0}) (E .run ts ws ss rs .answer)
+RunRefusals form E =
+    (ts ws ss rs : List ℕ) → First (runRows form ts ws ss rs) (λ n. Unit {0}) (E .run ts ws ss rs .answer)
 
 abbrev pub ReadRefusals : (form : Form) → Engine → Type 0
-ReadRefusals form E = (ts ws : List ℕ) (h : ℕ) (xs : List ℕ) → Answers (readRows form ts ws h xs) (E .read ts ws h xs .answer)
+ReadRefusals form E =
+    (ts ws : List ℕ) (h : ℕ) (xs : List ℕ) → Answers (readRows form ts ws h xs) (E .read ts ws h xs .answer)
 
 abbrev pub WriteRefusals : (form : Form) → Engine → Type 0
-WriteRefusals form E = (ts ws : List ℕ) (h : ℕ) (out : List ℕ) → Answers (writeRows form ts ws h out) (E .write ts ws h out .answer)
+WriteRefusals form E =
+    (ts ws : List ℕ) (h : ℕ) (out : List ℕ) → Answers (writeRows form ts ws h out) (E .write ts ws h out .answer)
 
 abbrev pub CheckRefusals : Engine → Type 0
 CheckRefusals E = (xs : List ℕ) → Answers (checkRows xs) (E .check xs .no)
@@ -56,13 +63,19 @@ abbrev pub RefusedSetUp : Engine → Type 0
 RefusedSetUp E = (ts : List ℕ) (n h : ℕ) → E .setUp ts n h .answer ≢ DONE → E .setUp ts n h .table ≡ ts
 
 abbrev pub RefusedRun : (form : Form) → Engine → Type 0
-RefusedRun form E = (ts ws ss rs : List ℕ) → (None (runRows form ts ws ss rs) → ⊥) → let r = E .run ts ws ss rs in (r .table ≡ ts) × (r .results ≡ rs) × (r .count ≡ 0)
+RefusedRun form E =
+    (ts ws ss rs : List ℕ) → (None (runRows form ts ws ss rs) → ⊥) → let r = E .run ts ws ss rs in
+    (r .table ≡ ts) × (r .results ≡ rs) × (r .count ≡ 0)
 
 abbrev pub RefusedRead : Engine → Type 0
-RefusedRead E = (ts ws : List ℕ) (h : ℕ) (xs : List ℕ) → let r = E .read ts ws h xs in r .answer ≢ DONE → (r .table ≡ ts) × (r .count ≡ 0)
+RefusedRead E =
+    (ts ws : List ℕ) (h : ℕ) (xs : List ℕ) → let r = E .read ts ws h xs in
+    r .answer ≢ DONE → (r .table ≡ ts) × (r .count ≡ 0)
 
 abbrev pub RefusedWrite : Engine → Type 0
-RefusedWrite E = (ts ws : List ℕ) (h : ℕ) (out : List ℕ) → let r = E .write ts ws h out in r .answer ≢ DONE → (r .output ≡ out) × (r .count ≡ 0)
+RefusedWrite E =
+    (ts ws : List ℕ) (h : ℕ) (out : List ℕ) → let r = E .write ts ws h out in
+    r .answer ≢ DONE → (r .output ≡ out) × (r .count ≡ 0)
 
 abbrev pub RefusedCheck : Engine → Type 0
 RefusedCheck E = (xs : List ℕ) → E .check xs .no ≢ DONE → E .check xs .taken ≡ 0
@@ -76,10 +89,14 @@ abbrev pub RunWork : (form : Form) → Engine → Type 0
 RunWork form E = (ts ws ss rs : List ℕ) → WorkSpace (take 4 (runRows form ts ws ss rs)) ts ws (E .run ts ws ss rs .work)
 
 abbrev pub ReadWork : (form : Form) → Engine → Type 0
-ReadWork form E = (ts ws : List ℕ) (h : ℕ) (xs : List ℕ) → WorkSpace (take 5 (readRows form ts ws h xs)) ts ws (E .read ts ws h xs .work)
+ReadWork form E =
+    (ts ws : List ℕ) (h : ℕ) (xs : List ℕ) → WorkSpace (take 5 (readRows form ts ws h xs)) ts ws
+    (E .read ts ws h xs .work)
 
 abbrev pub WriteWork : (form : Form) → Engine → Type 0
-WriteWork form E = (ts ws : List ℕ) (h : ℕ) (out : List ℕ) → WorkSpace (take 3 (writeRows form ts ws h out)) ts ws (E .write ts ws h out .work)
+WriteWork form E =
+    (ts ws : List ℕ) (h : ℕ) (out : List ℕ) → WorkSpace (take 3 (writeRows form ts ws h out)) ts ws
+    (E .write ts ws h out .work)
 
 -- a script that passes its first rows is its operations one by one, up to one that is refused
 abbrev pub ScriptsStop : (form : Form) → Engine → Type 0

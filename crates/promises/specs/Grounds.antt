@@ -1,4 +1,5 @@
--- When each answer is given, in document 01's words: the rows of setting up, of a script run and of an operation, in the order of their checks.
+-- When each answer is given, in document 01's words: the rows of setting up, of a script run and of an operation, in
+-- the order of their checks.
 use mathlib.Core.Path.{_≡_}
 use mathlib.Core.Logic.{_≢_, _⊎_}
 use mathlib.Core.Bool.{false}

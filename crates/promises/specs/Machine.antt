@@ -1,4 +1,5 @@
--- The machine that the SAC-1 report describes, without cells: a list for each holder, and what each operation makes of them and says.
+-- The machine that the SAC-1 report describes, without cells: a list for each holder, and what each operation makes of
+-- them and says.
 use mathlib.Core.Path.{_≡_}
 use mathlib.Core.Bool.{cond}
 use mathlib.Core.List.{List, [], _∷_, _++_}

@@ -1,5 +1,6 @@
--- An input has one outcome: a contract states that the answer, the number and every lent word are those of the definition,
--- so two outcomes that meet it are equal. And rows of answers fix the answer by themselves, whatever the engine.
+-- An input has one outcome: a contract states that the answer, the number and every lent word are those of the
+-- definition, so two outcomes that meet it are equal. And rows of answers fix the answer by themselves, whatever the
+-- engine.
 use mathlib.Core.Path.{_≡_, sym, _∙_}
 use mathlib.Core.Logic.{inl, inr}
 use mathlib.Core.List.{List, [], _∷_}
@@ -16,26 +17,32 @@ use Rattle.promises.specs.Rows.{Row, Answers}
 use Rattle.table.specs.declared.Form.{Form}
 
 -- setting up, by the contract of the code
-pub one-set-up : (form : Form) → (ts : List ℕ) (n h : ℕ) {r s : ℕ} {us vs : List ℕ} → SetsUp r us (setUpIn form ts n h) → SetsUp s vs (setUpIn form ts n h) → (r ≡ s) × (us ≡ vs)
+pub one-set-up : (form : Form) → (ts : List ℕ) (n h : ℕ) {r s : ℕ} {us vs : List ℕ} → SetsUp r us (setUpIn form ts n h)
+    → SetsUp s vs (setUpIn form ts n h) → (r ≡ s) × (us ≡ vs)
 one-set-up form ts n h a b = (a .answer ∙ sym (b .answer), a .table ∙ sym (b .table))
 
 -- a script run
-pub one-run : (form : Form) → (ts ws ss rs : List ℕ) {r s : Outcome} {us vs qs us′ vs′ qs′ : List ℕ} → Runs r us vs qs (ranIn form ts ws ss rs) → Runs s us′ vs′ qs′ (ranIn form ts ws ss rs)
+pub one-run : (form : Form) → (ts ws ss rs : List ℕ) {r s : Outcome} {us vs qs us′ vs′ qs′ : List ℕ}
+    → Runs r us vs qs (ranIn form ts ws ss rs) → Runs s us′ vs′ qs′ (ranIn form ts ws ss rs)
     → (r ≡ s) × (us ≡ us′) × (vs ≡ vs′) × (qs ≡ qs′)
-one-run form ts ws ss rs a b = (a .outcome ∙ sym (b .outcome), a .table ∙ sym (b .table), a .work ∙ sym (b .work), a .results ∙ sym (b .results))
+one-run form ts ws ss rs a b =
+    (a .outcome ∙ sym (b .outcome), a .table ∙ sym (b .table), a .work ∙ sym (b .work), a .results ∙ sym (b .results))
 
 -- reading
-pub one-read : (form : Form) → (ts ws : List ℕ) (h : ℕ) (xs : List ℕ) {r s : Outcome} {us vs us′ vs′ : List ℕ} → Reads r us vs (readingIn form ts ws h xs) → Reads s us′ vs′ (readingIn form ts ws h xs)
+pub one-read : (form : Form) → (ts ws : List ℕ) (h : ℕ) (xs : List ℕ) {r s : Outcome} {us vs us′ vs′ : List ℕ}
+    → Reads r us vs (readingIn form ts ws h xs) → Reads s us′ vs′ (readingIn form ts ws h xs)
     → (r ≡ s) × (us ≡ us′) × (vs ≡ vs′)
 one-read form ts ws h xs a b = (a .outcome ∙ sym (b .outcome), a .table ∙ sym (b .table), a .work ∙ sym (b .work))
 
 -- writing
-pub one-write : (form : Form) → (ts ws : List ℕ) (h : ℕ) (out : List ℕ) {r s : Outcome} {vs os vs′ os′ : List ℕ} → Writes r vs os (writingIn form ts ws h out) → Writes s vs′ os′ (writingIn form ts ws h out)
+pub one-write : (form : Form) → (ts ws : List ℕ) (h : ℕ) (out : List ℕ) {r s : Outcome} {vs os vs′ os′ : List ℕ}
+    → Writes r vs os (writingIn form ts ws h out) → Writes s vs′ os′ (writingIn form ts ws h out)
     → (r ≡ s) × (vs ≡ vs′) × (os ≡ os′)
 one-write form ts ws h out a b = (a .outcome ∙ sym (b .outcome), a .work ∙ sym (b .work), a .output ∙ sym (b .output))
 
 -- the text check
-pub one-check : (xs : List ℕ) {r s : Outcome} → r ≡ outcome (verdict xs .no) (verdict xs .taken) → s ≡ outcome (verdict xs .no) (verdict xs .taken) → r ≡ s
+pub one-check : (xs : List ℕ) {r s : Outcome} → r ≡ outcome (verdict xs .no) (verdict xs .taken)
+    → s ≡ outcome (verdict xs .no) (verdict xs .taken) → r ≡ s
 one-check xs a b = a ∙ sym b
 
 -- the further call

@@ -1,4 +1,5 @@
--- Document 01's table of answers as rows: a number, and when it is given. An answer is that of the first row whose condition holds.
+-- Document 01's table of answers as rows: a number, and when it is given. An answer is that of the first row whose
+-- condition holds.
 use mathlib.Core.Path.{_≡_}
 use mathlib.Core.Logic.{_⊎_}
 use mathlib.Core.List.{List, [], _∷_}

@@ -132,10 +132,12 @@ fn rest_start(text: &[u8]) -> usize
     }
 }
 
-// The part of the lent text behind the record in which its first list ends. It is empty, at the text's end, where the check refuses.
+// The part of the lent text behind the record in which its first list ends. It is empty, at the text's end, where the
+// check refuses.
 pub fn rest(text: &[u8]) -> &[u8]
     ensures { λ r. ⌜ now r ≡ drop (restAt (now (text .entry))) (now (text .entry)) ⌝ }
-    ensures own { λ r. ⌜ (ptr r .0 ≡ ptr (text .entry) .0) × (ptr r .1 ≡ ptr (text .entry) .1 + restAt (now (text .entry))) ⌝ }
+    ensures own { λ r. ⌜ (ptr r .0 ≡ ptr (text .entry) .0) ×
+        (ptr r .1 ≡ ptr (text .entry) .1 + restAt (now (text .entry))) ⌝ }
 {
     let start = rest_start(text);
     &text[start..]

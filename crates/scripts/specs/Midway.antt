@@ -13,7 +13,9 @@ use Rattle.table.specs.declared.Shape.{Shape}
 
 -- operation i of a script
 abbrev pub operationAt : List ℕ → ℕ → Operation
-operationAt ss i = operation (getD ss (operationWords * i) 0) (getD ss (operationWords * i + 1) 0) (getD ss (operationWords * i + 2) 0) (getD ss (operationWords * i + 3) 0)
+operationAt ss i =
+    operation (getD ss (operationWords * i) 0) (getD ss (operationWords * i + 1) 0) (getD ss (operationWords * i + 2) 0)
+    (getD ss (operationWords * i + 3) 0)
 
 -- the result words of operation i
 abbrev pub written : List ℕ → ℕ → ℕ → ℕ → List ℕ
@@ -27,7 +29,8 @@ left ss i p = performed p (operations (drop (operationWords * i) ss))
 abbrev pub resumed : ℕ → List ℕ → Run → Run
 resumed i us r = record { pool = r .pool; answer = r .answer; done = i + r .done; results = us ++ r .results }
 
--- i operations of the script ss are done: the table shows where they have come to, and their results stand before the others
+-- i operations of the script ss are done: the table shows where they have come to, and their results stand before the
+-- others
 pub record Midway (s : Shape) (ss rs₀ : List ℕ) (q : Run) (ts rs : List ℕ) (i : ℕ) : Type 0 where
   pub table : Table s ts
   pub sound : Sound (view s ts)

@@ -1,4 +1,5 @@
-// A run of operations: the tests 1 to 5 once and in this order, then operation by operation up to the first that is refused.
+// A run of operations: the tests 1 to 5 once and in this order, then operation by operation up to the first that is
+// refused.
 ghost use mathlib.Core.Path.{_≡_};
 ghost use Prim.Native.Nat.{_+_, _*_, _≤_};
 ghost use lib.ListN.{length};
