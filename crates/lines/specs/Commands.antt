@@ -27,29 +27,30 @@ startsWith (c ∷ cs) (x ∷ s) = eqb c x && startsWith cs s
 abbrev pub name : ℕ → ℕ → Name
 name c n = record { code = c; long = n }
 
-abbrev pub nameOr : List ℕ → ℕ → List ℕ → Name → Name
-nameOr n c s other = cond (startsWith n s) (name c (length n)) other
+-- a name, unless one was found before it
+unfoldable pub nameOr : List ℕ → ℕ → List ℕ → Name → Name
+nameOr n c s found = cond (eqb (found .code) 0) (cond (startsWith n s) (name c (length n)) found) found
 
 abbrev pub named : String → ℕ → List ℕ → Name → Name
 named n = nameOr (chars n)
 
--- those that take two numbers, PFA a and v, the others a and b; and those that take only a
-abbrev pub nameOfTwo : List ℕ → Name
+-- those that take two numbers, PFA a and v, the others a and b; and those that take only a; the last stands first
+unfoldable pub nameOfTwo : List ℕ → Name
 nameOfTwo s =
-    named "PFA " PFA s (
-    named "PFL " PFL s (
-    named "DECAP " DECAP s (
-    named "ADV " ADV s (
-    named "BORROW " BORROW s (
+    named "CONC " CONC s (
     named "CINV " CINV s (
-    named "CONC " CONC s (name 0 0)))))))
+    named "BORROW " BORROW s (
+    named "ADV " ADV s (
+    named "DECAP " DECAP s (
+    named "PFL " PFL s (
+    named "PFA " PFA s (name 0 0)))))))
 
-abbrev pub nameOfOne : List ℕ → Name
+unfoldable pub nameOfOne : List ℕ → Name
 nameOfOne s =
-    named "ERASE " ERASE s (
-    named "INV " INV s (
+    named "LENGTH " LENGTH s (
     named "FIRST " FIRST s (
-    named "LENGTH " LENGTH s (name 0 0))))
+    named "INV " INV s (
+    named "ERASE " ERASE s (name 0 0))))
 
 abbrev pub second : ℕ → ℕ → ℕ → Command
 second c a x = cond (eqb c PFA) (operation c a 0 x) (operation c a x 0)

@@ -49,39 +49,42 @@ fn starts(line: &[u8], name: &[u8]) -> bool
     true
 }
 
-// The name that the line starts with, or what was found otherwise.
-fn named(line: &[u8], name: &[u8], code: u32, other: Name) -> Name
-    ensures { λ r. ⌜ r ≡ nameOr (now (name .entry)) code (now (line .entry)) other ⌝ }
+// The name that the line starts with, unless one was found before.
+fn named(line: &[u8], name: &[u8], code: u32, found: Name) -> Name
+    ensures { λ r. ⌜ r ≡ nameOr (now (name .entry)) code (now (line .entry)) found ⌝ }
 {
+    if found.code != 0 {
+        return found;
+    }
     if starts(line, name) {
         return Name::new(code, name.len());
     }
-    other
+    found
 }
 
-// The operations that take two numbers, the last first.
+// The operations that take two numbers.
 fn name_of_two(line: &[u8]) -> Name
     ensures { λ r. ⌜ r ≡ nameOfTwo (now (line .entry)) ⌝ }
 {
     let n = Name::new(0, 0);
-    let n = named(line, b"CONC ", Code::CONC, n);
-    let n = named(line, b"CINV ", Code::CINV, n);
-    let n = named(line, b"BORROW ", Code::BORROW, n);
-    let n = named(line, b"ADV ", Code::ADV, n);
-    let n = named(line, b"DECAP ", Code::DECAP, n);
+    let n = named(line, b"PFA ", Code::PFA, n);
     let n = named(line, b"PFL ", Code::PFL, n);
-    named(line, b"PFA ", Code::PFA, n)
+    let n = named(line, b"DECAP ", Code::DECAP, n);
+    let n = named(line, b"ADV ", Code::ADV, n);
+    let n = named(line, b"BORROW ", Code::BORROW, n);
+    let n = named(line, b"CINV ", Code::CINV, n);
+    named(line, b"CONC ", Code::CONC, n)
 }
 
-// The operations that take one number, the last first.
+// The operations that take one number.
 fn name_of_one(line: &[u8]) -> Name
     ensures { λ r. ⌜ r ≡ nameOfOne (now (line .entry)) ⌝ }
 {
     let n = Name::new(0, 0);
-    let n = named(line, b"LENGTH ", Code::LENGTH, n);
-    let n = named(line, b"FIRST ", Code::FIRST, n);
+    let n = named(line, b"ERASE ", Code::ERASE, n);
     let n = named(line, b"INV ", Code::INV, n);
-    named(line, b"ERASE ", Code::ERASE, n)
+    let n = named(line, b"FIRST ", Code::FIRST, n);
+    named(line, b"LENGTH ", Code::LENGTH, n)
 }
 
 // Two numbers from a place on: a, and v for PFA or b for the others.

@@ -7,7 +7,8 @@ use Rattle.console.proofs.finish.Tie as tie
 
 returns : tie.Need-returns
 returns c =
-    let start = c .before .before .before .before .before .before in
+    let after-shared-slice-known = c .before .before .before .before .before in
+    let start = after-shared-slice-known .before in
     closes-none (start .args .s) (start .args .line .now) (start .args .table .now) _ (c .if1 .taken)
 
 answer-requires : tie.Need-answer-requires
@@ -24,9 +25,11 @@ same-length-3 c = search needs
 
 returns-2 : tie.Need-returns-2
 returns-2 c =
-    let after-answer = c .before .before .before .before .before .before in
-    let else1 = after-answer .before .before .before .before in
-    let start = else1 .before .before .before .before .before .before in
+    let after-table = c .before .before .before .before .before in
+    let else1 = after-table .before .before .before .before .before in
+    let after-shared-slice-known = else1 .before .before .before .before .before in
+    let after-answer = after-table .before in
+    let start = after-shared-slice-known .before in
     closes-line (start .args .s) (start .args .line .now) (start .args .table .now) _ _ _ (else1 .if1 .left) (omega (arith, start .pre .len, start .pre .long))
     (after-answer .answer .ensures)
 

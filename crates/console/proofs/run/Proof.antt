@@ -20,7 +20,8 @@ new-requires c κs = search needs
 
 loop-holds : tie.Need-loop-holds Inv-loop μ-loop
 loop-holds c =
-    let start = c .before .before .before .before .before .before in
+    let after-slice-known = c .before .before .before .before .before in
+    let start = after-slice-known .before in
     let a = start .args in (
       subst (λ (u : State). Standing u (a .line .now) (a .table .now) (a .work .now) (a .out .now)) (sym (c .new .ensures)) (start .pre),
       refl,
@@ -35,12 +36,15 @@ read-requires c κs = search needs
 
 finish-requires : tie.Need-finish-requires Inv-loop μ-loop
 finish-requires c κs =
-    let turn = c .before .before .before .before .before .before .before .before .before .before in
+    let then1 = c .before .before .before .before in
+    let in-loop = then1 .before .before .before .before .before in
+    let turn = in-loop .before in
     turn .loop .inv .0
 
 write-requires : tie.Need-write-requires Inv-loop μ-loop
 write-requires c κs =
-    let after-finish = c .before .before .before .before .before .before .before in
+    let after-work = c .before .before .before .before in
+    let after-finish = after-work .before .before .before in
     after-finish .finish .ensures .fits
 
 same-length : tie.Need-same-length Inv-loop μ-loop
@@ -72,7 +76,9 @@ part-serve-end c = search needs
 
 serve-requires : tie.Need-serve-requires Inv-loop μ-loop
 serve-requires c κs =
-    let turn = c .before .before .before .before .before .before .before .before .before .before .before .before in
+    let after-chunk2 = c .before .before .before .before .before in
+    let after-read = after-chunk2 .before .before .before .before in
+    let turn = after-read .before .before .before in
     turn .loop .inv .0
 
 sub-reads : tie.Need-sub-reads Inv-loop μ-loop
@@ -83,8 +89,10 @@ loop-less c = search needs
 
 loop-again : tie.Need-loop-again Inv-loop μ-loop
 loop-again c =
-    let after-serve = c .before .before .before .before .before .before .before .before in
-    let after-read = after-serve .before .before .before .before .before .before .before .before .before .before in
+    let after-table2 = c .before .before .before .before .before in
+    let after-serve = after-table2 .before .before .before in
+    let after-serve-arg = after-serve .before .before .before .before .before in
+    let after-read = after-serve-arg .before .before .before .before .before in
     let v = after-read .before .before .before .loop .inv in
     let k = after-serve .serve .kept in (
       after-serve .serve .ensures .0,

@@ -42,20 +42,23 @@ step-requires c κs =
 
 write-requires : tie.Need-write-requires Inv-loop μ-loop
 write-requires c κs =
-    let after-table = c .before .before .before .before .before .before in
+    let after-work = c .before .before .before .before in
+    let after-table = after-work .before .before in
     let after-step = after-table .before .before .before in
     after-step .step .ensures .wrote
 
 loop-less : tie.Need-loop-less Inv-loop μ-loop
 loop-less c =
-    let after-step = c .before .before .before .before .before .before .before .before .before .before in
+    let after-work = c .before .before .before .before .before in
+    let after-step = after-work .before .before .before .before .before in
     let then1 = then1-of after-step in
     let k = after-step .step .ensures in
     omega (arith, k .on (within then1), k .at, loop-of then1 .loop .inv .0)
 
 loop-again : tie.Need-loop-again Inv-loop μ-loop
 loop-again c =
-    let after-step = c .before .before .before .before .before .before .before .before .before .before in
+    let after-work = c .before .before .before .before .before in
+    let after-step = after-work .before .before .before .before .before in
     let then1 = then1-of after-step in
     let i = loop-of then1 .loop .inv in
     let k = after-step .step .kept in (

@@ -14,7 +14,8 @@ same-length c = search needs
 returns : tie.Need-returns
 returns c =
     let after-gather = c .before .before .before .before in
-    let start = after-gather .before .before .before .before .before .before .before in
+    let after-slice-known = after-gather .before .before .before .before .before in
+    let start = after-slice-known .before .before in
     steps-on (start .args .s) (start .args .chunk .now) (start .args .line .now) (start .args .table .now) _ _ (after-gather .gather .ensures) _
     (not-true _ (c .if1 .taken)) (start .pre .1 .lent .in-use)
 
@@ -35,10 +36,12 @@ same-length-5 c = search needs
 
 returns-2 : tie.Need-returns-2
 returns-2 c =
-    let after-answer = c .before .before .before .before .before .before in
+    let after-table = c .before .before .before .before .before in
+    let after-answer = after-table .before in
     let else1 = after-answer .before .before .before .before .before in
     let after-gather = else1 .before .before .before .before in
-    let start = after-gather .before .before .before .before .before .before .before in
+    let after-slice-known = after-gather .before .before .before .before .before in
+    let start = after-slice-known .before .before in
     steps-line (start .args .s) (start .args .chunk .now) (start .args .line .now) (start .args .table .now) _ _ (after-gather .gather .ensures) _ _ _
     (not-false _ (else1 .if1 .left)) (after-answer .answer .ensures)
 

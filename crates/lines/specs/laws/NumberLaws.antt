@@ -51,9 +51,6 @@ pub record Reads (s : List ℕ) (at v i : ℕ) : Type 0 where
   pub total : value v (digits (drop i s)) ≡ value 0 (digits (drop at s))
   pub count : (i - at) + length (digits (drop i s)) ≡ length (digits (drop at s))
 
-pub reads-none : (s : List ℕ) (at : ℕ) → Reads s at 0 at
-reads-none s at = record { low = omega arith; total = refl; count = omega arith }
-
 digits-more : (s : List ℕ) (i : ℕ) → i < length s → isDigit (getD s i 0) ≡ true → digits (drop i s) ≡ getD s i 0 ∷ digits (drop (i + 1) s)
 unfolding digits
 digits-more s i l e = rw (drop-cons s i 0 l) (rw e (rw add-one refl))

@@ -47,9 +47,6 @@ pub fills-nothing : (line l : List ℕ) (at : ℕ) → length line ≤ at → Pu
 fills-nothing line l at h = rw (drop-of-length-le line h) (record { place = refl; bytes = refl })
 
 -- i bytes have been stored
-pub fills-none : (bs l : List ℕ) → Puts (take 0 bs) 0 l 0 l
-fills-none bs l = record { place = omega arith; bytes = refl }
-
 module _ (line l m : List ℕ) (at i x : ℕ) (h : i < filledLength (length line - at)) (p : Puts (take i (filled (drop at line))) 0 l i m) (e : x ≡ getD line (at + i) blank) where
   n : length (drop at line) ≡ length line - at
   n = length-drop at line

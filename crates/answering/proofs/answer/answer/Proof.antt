@@ -145,7 +145,8 @@ returns-4 : tie.Need-returns-4
 unfolding does
 returns-4 c =
     let after-tell-said = c .before .before in
-    let after-operate = after-tell-said .before .before .before .before .before .before .before in
+    let after-work = after-tell-said .before .before .before .before in
+    let after-operate = after-work .before .before .before in
     let after-order = after-operate .before .before .before .before in
     let g = after-order .order2 .given in
     by-order (after-order .before .before) (Operation (g .0 .0) (g .0 .1 .0) (g .0 .1 .1 .0) (g .0 .1 .1 .1 .0)) _ _ _ (g .1)
@@ -164,8 +165,10 @@ returns-5 : tie.Need-returns-5
 unfolding does
 returns-5 c =
     let after-tell-said = c .before .before in
-    let after-read-text = after-tell-said .before .before .before .before .before .before .before .before .before in
-    let after-order = after-read-text .before .before .before .before .before .before in
+    let after-out5 = after-tell-said .before .before .before .before in
+    let after-read-text = after-out5 .before .before .before .before .before in
+    let after-known-told3 = after-read-text .before .before .before .before .before in
+    let after-order = after-known-told3 .before in
     let g = after-order .order3 .given in
     by-order (after-order .before .before) (Reading (g .0 .0) (g .0 .1 .0)) _ _ _ (g .1)
     (after-tell-said .tell-said3 .ensures _ (after-read-text .read-text .ensures))

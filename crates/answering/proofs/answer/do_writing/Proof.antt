@@ -58,9 +58,12 @@ same-length-2 c = search needs
 
 returns : tie.Need-returns
 returns c =
-    let after-write-text = c .before .before .before .before .before .before .before in
-    let after-tell = after-write-text .before .before .before .before .before .before in
-    let start = after-tell .before .before .before .before .before .before in
+    let after-out2 = c .before .before .before .before in
+    let after-write-text = after-out2 .before .before .before in
+    let after-out = after-write-text .before .before .before .before .before in
+    let after-tell = after-out .before in
+    let after-shared-slice-known = after-tell .before .before .before .before .before in
+    let start = after-shared-slice-known .before in
     speaks-text (start .args .table .now) _ _ (start .args .used) (start .args .used - 0) _ _ _ (omega arith) (start .pre .0 .0)
     (after-write-text .write-text .ensures)
     _ (c .before .if1 .taken) (after-tell .tell .ensures)
@@ -86,8 +89,12 @@ same-length-4 c = search needs
 returns-2 : tie.Need-returns-2
 returns-2 c =
     let else1 = c .before .before .before .before .before in
-    let after-write-text = else1 .before .before .before .before .before .before in
-    let start = after-write-text .before .before .before .before .before .before .before .before .before .before .before .before in
+    let after-work = else1 .before .before .before .before .before in
+    let after-write-text = after-work .before in
+    let after-out = after-write-text .before .before .before .before .before in
+    let after-tell = after-out .before in
+    let after-shared-slice-known = after-tell .before .before .before .before .before in
+    let start = after-shared-slice-known .before in
     speaks-refused (start .args .table .now) _ _ (start .args .used) (start .args .used - 0) _ _ _ (omega arith) (start .pre .0 .0)
     (after-write-text .write-text .ensures)
     (else1 .if1 .left) (c .before .before .tell2 .ensures)

@@ -42,7 +42,8 @@ same-length-2 c = search needs
 returns : tie.Need-returns
 returns c =
     let after-run = c .before .before .before .before .before in
-    let start = after-run .before .before .before .before .before .before .before in
+    let after-script = after-run .before .before in
+    let start = after-script .before .before .before .before .before in
     let a = start .args in
     let z : a .used - 0 ≡ a .used = omega arith in
     operates (a .table .now) _ _ _ _ _ (a .used - 0) _ _ _ _ _ z (after-run .run .kept .0 ∙ length-take-le (a .used - 0) (a .table .now) (omega arith) ∙ z)

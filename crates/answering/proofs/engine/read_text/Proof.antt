@@ -45,8 +45,10 @@ same-length-3 c = search needs
 returns : tie.Need-returns
 returns c =
     let after-read = c .before .before .before .before in
-    let after-fill-text = after-read .before .before .before .before .before .before .before in
-    let start = after-fill-text .before .before .before .before .before .before in
+    let after-page2 = after-read .before .before in
+    let after-fill-text = after-page2 .before .before .before .before .before in
+    let after-shared-slice-known = after-fill-text .before .before .before .before .before in
+    let start = after-shared-slice-known .before in
     let a = start .args in
     let n = after-fill-text .fill-text .result in
     let z : a .used - 0 ≡ a .used = omega arith in

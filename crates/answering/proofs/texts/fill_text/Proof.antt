@@ -16,7 +16,8 @@ same-length c = search needs
 
 returns : tie.Need-returns
 returns c =
-    let a = c .before .before .before .before .before .before .args in
+    let after-fill-record = c .before .before in
+    let a = after-fill-record .before .before .before .before .args in
     printed (filled (drop (a .at) (a .line .now))) (c .before .before .fill-record .ensures)
     (omega (
       arith,

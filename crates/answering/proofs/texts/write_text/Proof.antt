@@ -71,7 +71,8 @@ same-length-2 c = search needs
 
 returns : tie.Need-returns
 returns c =
-    let after-write = c .before .before .before .before .before .before in
+    let after-work = c .before .before .before .before .before in
+    let after-write = after-work .before in
     texts-refused _ _ _ _ _ (told after-write) _ (c .if1 .taken)
 
 cast-without-fill : tie.Need-cast-without-fill

@@ -32,7 +32,8 @@ same-length c = search needs
 
 returns : tie.Need-returns Inv-loop μ-loop
 returns c =
-    let then1 = c .before .before .before .before .before .before in
+    let after-take-byte = c .before .before .before in
+    let then1 = after-take-byte .before .before .before in
     gathers-line _ _ _ _ _ _ _ (then1 .before .before .loop .inv .0) (then1 .if1 .taken) (c .before .before .before .take-byte .ensures) (c .if2 .taken)
 
 loop-less : tie.Need-loop-less Inv-loop μ-loop
@@ -40,7 +41,8 @@ loop-less c = search needs
 
 loop-again : tie.Need-loop-again Inv-loop μ-loop
 loop-again c =
-    let then1 = c .before .before .before .before .before .before in
+    let after-take-byte = c .before .before .before in
+    let then1 = after-take-byte .before .before .before in
     let turn = then1 .before .before in (
       gathers-more _ _ _ _ _ _ _ (turn .loop .inv .0) (then1 .if1 .taken) (c .before .before .before .take-byte .ensures) (c .if2 .left),
       c .before .before .before .take-byte .kept .0 ∙ turn .loop .inv .1,

@@ -1,4 +1,5 @@
 -- `lines::order::name_of_one` meets its contract.
+use Rattle.lines.specs.Commands.{nameOfOne}
 use Rattle.lines.specs.laws.CommandLaws.{or-name}
 use borrow.Author.Needs.{needs}
 use Rattle.lines.proofs.order.name_of_one.Statement.{statement}
@@ -32,6 +33,7 @@ named-requires-4 : tie.Need-named-requires-4
 named-requires-4 c κs = search needs
 
 returns : tie.Need-returns
+unfolding nameOfOne
 returns c =
     let n3 = c .before .before in
     let n2 = n3 .before .before in

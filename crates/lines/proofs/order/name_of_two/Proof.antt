@@ -1,4 +1,5 @@
 -- `lines::order::name_of_two` meets its contract.
+use Rattle.lines.specs.Commands.{nameOfTwo}
 use Rattle.lines.specs.laws.CommandLaws.{or-name}
 use borrow.Author.Needs.{needs}
 use Rattle.lines.proofs.order.name_of_two.Statement.{statement}
@@ -50,6 +51,7 @@ named-requires-7 : tie.Need-named-requires-7
 named-requires-7 c κs = search needs
 
 returns : tie.Need-returns
+unfolding nameOfTwo
 returns c =
     let n6 = c .before .before in
     let n5 = n6 .before .before in

@@ -13,7 +13,8 @@ put-number-requires c κs = search needs
 
 put-requires : tie.Need-put-requires
 put-requires c κs =
-    let start = c .before .before .before .before .before .before in
+    let after-put-number = c .before .before .before in
+    let start = after-put-number .before .before .before in
     omega (arith, decimal-short digitsMost (start .args .v))
 
 same-length : tie.Need-same-length
@@ -21,7 +22,8 @@ same-length c = search needs
 
 returns : tie.Need-returns
 returns c =
-    let after-put-number = c .before .before .before .before .before .before in
+    let after-out = c .before .before .before .before .before in
+    let after-put-number = after-out .before in
     let start = after-put-number .before .before .before in
     puts-then (decimal (start .args .v)) (start .args .b ∷ []) (after-put-number .put-number .ensures) (c .before .before .put .ensures)
 

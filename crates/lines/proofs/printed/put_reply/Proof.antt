@@ -13,17 +13,23 @@ put-column-requires c κs = search needs
 
 put-column-requires-2 : tie.Need-put-column-requires-2
 put-column-requires-2 c κs =
-    let start = c .before .before .before .before .before .before in
+    let after-put-column = c .before .before .before in
+    let start = after-put-column .before .before .before in
     omega (arith, column-short (start .args .answer) blank)
 
 put-column-requires-3 : tie.Need-put-column-requires-3
 put-column-requires-3 c κs =
-    let start = c .before .before .before .before .before .before .before .before .before .before in
+    let after-put-column2 = c .before .before .before in
+    let after-put-column = after-put-column2 .before .before .before .before in
+    let start = after-put-column .before .before .before in
     omega (arith, column-short (start .args .answer) blank, column-short (start .args .kind) blank)
 
 put-column-requires-4 : tie.Need-put-column-requires-4
 put-column-requires-4 c κs =
-    let start = c .before .before .before .before .before .before .before .before .before .before .before .before .before .before in
+    let after-put-column3 = c .before .before .before in
+    let after-put-column2 = after-put-column3 .before .before .before .before in
+    let after-put-column = after-put-column2 .before .before .before .before in
+    let start = after-put-column .before .before .before in
     omega (arith, column-short (start .args .answer) blank, column-short (start .args .kind) blank, column-short (start .args .value) blank)
 
 same-length : tie.Need-same-length
@@ -31,9 +37,11 @@ same-length c = search needs
 
 returns : tie.Need-returns
 returns c =
-    let after-put-column3 = c .before .before .before .before .before .before in
-    let after-put-column2 = after-put-column3 .before .before .before .before in
-    let a = after-put-column2 .before .before .before .before .before .before .before .args in
+    let after-out3 = c .before .before .before .before .before in
+    let after-put-column2 = after-out3 .before .before .before .before .before in
+    let after-put-column = after-put-column2 .before .before .before .before in
+    let after-put-column3 = after-out3 .before in
+    let a = after-put-column .before .before .before .args in
     puts-then (column (a .answer) blank) (column (a .kind) blank ++ (column (a .value) blank ++ column (a .free) lineFeed))
     (after-put-column2 .before .before .before .before .put-column .ensures)
     (puts-then (column (a .kind) blank) (column (a .value) blank ++ column (a .free) lineFeed) (after-put-column2 .put-column2 .ensures)

@@ -30,7 +30,8 @@ loop-holds c = search needs
 
 add-byte-or-blank : tie.Need-add-byte-or-blank Inv-loop μ-loop
 add-byte-or-blank c =
-    let start = c .before .before .before .before .before .before in
+    let else1 = c .before .before .before in
+    let start = else1 .before .before .before in
     omega (arith, filled-most (length (start .args .line .now) - start .args .at) (omega arith))
 
 byte-or-blank-requires : tie.Need-byte-or-blank-requires Inv-loop μ-loop
@@ -38,7 +39,8 @@ byte-or-blank-requires c κs = search needs
 
 slice-write-text : tie.Need-slice-write-text Inv-loop μ-loop
 slice-write-text c =
-    let start = c .before .before .before .before .before .before .before in
+    let else1 = c .before .before .before .before in
+    let start = else1 .before .before .before in
     omega (arith, filled-most (length (start .args .line .now) - start .args .at) (omega arith))
 
 add-i : tie.Need-add-i Inv-loop μ-loop
@@ -62,7 +64,8 @@ same-length c = search needs
 
 returns-2 : tie.Need-returns-2 Inv-loop μ-loop
 returns-2 c =
-    let start = c .before .before .before .before .before .before in
+    let else1 = c .before .before .before in
+    let start = else1 .before .before .before in
     fills-all (start .args .line .now) _ _ _ _ _ (c .before .before .record-end .ensures) (omega arith) (c .before .loop .inv .0)
 
 pub fill-record-spec : {M : Type 1} → statement M
