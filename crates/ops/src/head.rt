@@ -5,10 +5,10 @@ ghost use Rattle.ops.specs.Replies.{operation, Gives};
 ghost use Rattle.pool.specs.Pool.{Sound};
 ghost use Rattle.pool.specs.Script.{PFA, PFL, DECAP, BORROW, FIRST};
 ghost use Rattle.table.specs.View.{holderCount, view, Table};
-use super::Kind;
 use super::Reply;
 use super::tests;
 use answers::Answer;
+use answers::Kind;
 use table::Shape;
 
 pub fn pfa(s: Shape, t: &mut [u32], a: usize, v: u32) -> Reply

@@ -6,7 +6,7 @@ ghost use lib.Dec.{leb};
 ghost use Rattle.ops.specs.Replies.{operation, Gives};
 ghost use Rattle.ops.specs.Tests.{early};
 ghost use Rattle.pool.specs.Pool.{Sound};
-ghost use Rattle.pool.specs.Script.{PFA, LENGTH, usesB};
+ghost use Rattle.pool.specs.Script.{PFA, lastCode, usesB};
 ghost use Rattle.pool.specs.laws.ScriptLaws.{Opened};
 ghost use Rattle.table.specs.View.{holderCount, view, Table};
 
@@ -25,22 +25,13 @@ pub enum Reply {
     Refused(u32),
 }
 
-// The kinds of results beside those of a first element, which are 0 and 1.
-pub struct Kind(pub u32);
-
-impl Kind {
-    pub const NUMBER: u32 = 2;
-
-    pub const NOTHING: u32 = 3;
-}
-
 fn is_code(code: u32) -> bool
-    ensures { λ r. ⌜ r ≡ (leb PFA code && leb code LENGTH) ⌝ }
+    ensures { λ r. ⌜ r ≡ (leb PFA code && leb code lastCode) ⌝ }
 {
     if code < Code::PFA {
         return false;
     }
-    code <= Code::LENGTH
+    code <= Code::LAST
 }
 
 // Whether an operation uses b.

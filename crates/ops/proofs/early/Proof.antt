@@ -6,7 +6,7 @@ use lib.Dec.{leb}
 use borrow.Author.Tests.{not-true, not-false}
 use native.Mathlib.Omega.{arith}
 use borrow.Author.Needs.{needs}
-use Rattle.pool.specs.Script.{PFA, LENGTH, usesB}
+use Rattle.pool.specs.Script.{PFA, lastCode, usesB}
 use Rattle.table.specs.View.{holderCount}
 use Rattle.ops.specs.laws.WordLaws.{early-code, early-a, early-one, early-b, early-same, early-two}
 use Rattle.ops.proofs.early.Statement.{statement}
@@ -15,7 +15,7 @@ use Rattle.ops.proofs.early.Tie as tie
 -- past the tests: the code is one of the eleven, a is a holder, the operation uses two, b is a holder
 coded : (c : tie.Else1) →
     let a = c .before .before .args in
-    (leb PFA (a .code) && leb (a .code) LENGTH) ≡ true
+    (leb PFA (a .code) && leb (a .code) lastCode) ≡ true
 coded c = sym (c .before .is-code .ensures) ∙ not-false _ (c .if1 .left)
 
 a-within : (c : tie.Else2) →

@@ -12,18 +12,18 @@ use Rattle.answers.specs.Answers.{DONE, CODE, HOLDER, SAME}
 use Rattle.ops.specs.Tests.{early}
 use Rattle.pool.specs.laws.CheckInv.{and-both}
 use Rattle.pool.specs.Pool.{Pool, Sound}
-use Rattle.pool.specs.Script.{PFA, LENGTH, Operation, usesB, badCode, badHolder, sameHolder, refusal}
+use Rattle.pool.specs.Script.{PFA, lastCode, Operation, usesB, badCode, badHolder, sameHolder, refusal}
 use Rattle.pool.specs.laws.ScriptLaws.{Opened, not-refused, a-holder, b-holder}
 use Rattle.table.specs.View.{holderCount, view, Table}
 use Rattle.table.specs.declared.Shape.{Shape}
 
 -- the tests of the words, one after another
 module _ (n : ℕ) (o : Operation) where
-  pub early-code : (leb PFA (o .code) && leb (o .code) LENGTH) ≡ false → CODE ≡ early n o
+  pub early-code : (leb PFA (o .code) && leb (o .code) lastCode) ≡ false → CODE ≡ early n o
   unfolding early
   early-code e = rw e refl
 
-  module _ (coded : (leb PFA (o .code) && leb (o .code) LENGTH) ≡ true) where
+  module _ (coded : (leb PFA (o .code) && leb (o .code) lastCode) ≡ true) where
     pub early-a : n ≤ o .a → HOLDER ≡ early n o
     unfolding early
     early-a l = rw (coded, le-leb n (o .a) l) refl
@@ -99,10 +99,10 @@ module _ {s : Shape} {ws : List ℕ} (t : Table s ws) (k : Sound (view s ws)) (o
       let (lb, ab) = b-holder (view s ws) o h u in
       (t, ((on-one .1 .0, omega (arith, t .held), ab), k))
 
-pub code-range : (o : Operation) → badCode o ≡ false → (PFA ≤ o .code) × (o .code ≤ LENGTH)
+pub code-range : (o : Operation) → badCode o ≡ false → (PFA ≤ o .code) × (o .code ≤ lastCode)
 code-range o e =
-    let (l, m) = and-both (leb PFA (o .code)) (leb (o .code) LENGTH) (not-false _ e) in
-    (leb-true PFA (o .code) l, leb-true (o .code) LENGTH m)
+    let (l, m) = and-both (leb PFA (o .code)) (leb (o .code) lastCode) (not-false _ e) in
+    (leb-true PFA (o .code) l, leb-true (o .code) lastCode m)
 
 -- for the last code: what is none of those below it is above them
 pub above : (c k : ℕ) → k ≤ c → c ≢ k → k + 1 ≤ c

@@ -22,7 +22,7 @@ use Rattle.pool.specs.laws.SoundLaws.{none-aside, sound-held}
 use Rattle.pool.specs.laws.Advance.{holder-live, null-or-item, lends}
 use Rattle.pool.specs.laws.Lengths.{effect-alike}
 use Rattle.pool.specs.laws.ByCode.{by-code}
-use Rattle.pool.specs.Script.{PFA, PFL, DECAP, ADV, BORROW, ERASE, CINV, CONC, Operation, Effect, among, effect}
+use Rattle.pool.specs.Script.{numberKind, PFA, PFL, DECAP, ADV, BORROW, ERASE, CINV, CONC, Operation, Effect, among, effect}
 use Rattle.pool.specs.laws.ScriptLaws.{Allowed, allowed, a-holder, b-holder, some-free}
 use Rattle.calls.specs.Entry.{shown, over}
 use Rattle.promises.specs.Engine.{ours}
@@ -231,7 +231,7 @@ erase-frees p a s la =
           (λ d n. omega (arith, occ-take (p .holders) a d la n)) (λ d. refl)),
     )
 
-effect-erase : (p : Pool) (o : Operation) → o .code ≡ ERASE → effect p o ≡ record { pool = erase p (o .a) .0; kind = 2; value = erase p (o .a) .1 }
+effect-erase : (p : Pool) (o : Operation) → o .code ≡ ERASE → effect p o ≡ record { pool = erase p (o .a) .0; kind = numberKind; value = erase p (o .a) .1 }
 unfolding effect
 effect-erase p o e = rw e
 

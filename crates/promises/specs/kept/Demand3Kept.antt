@@ -39,7 +39,7 @@ use Rattle.table.specs.declared.Form.{Form}
 abbrev erasure : ℕ → ℕ → ℕ → Operation
 erasure a b v = record { code = ERASE; a = a; b = b; v = v }
 
-pub effect-erase : (p : Pool) (a b v : ℕ) → effect p (erasure a b v) ≡ record { pool = erase p a .0; kind = 2; value = erase p a .1 }
+pub effect-erase : (p : Pool) (a b v : ℕ) → effect p (erasure a b v) ≡ record { pool = erase p a .0; kind = numberKind; value = erase p a .1 }
 unfolding effect
 effect-erase p a b v = refl
 
