@@ -52,7 +52,7 @@ abbrev pub sublist : List Cell → ℕ → ℕ
 sublist cs x = cond (eqb (kindOf cs x) 1) (elemOf cs x) 0
 
 -- the lists xs are borrowed: every count goes up by as often as they name the cell, and nothing else changes
-pub record Lent (xs : List ℕ) (cs ds : List Cell) : Type 0 where
+pub record Raised (xs : List ℕ) (cs ds : List Cell) : Type 0 where
   pub size : length ds ≡ length cs
   pub counts : (c : ℕ) → c ≢ 0 → at ds c ≡ counted (at cs c) (countOf cs c + occ xs c)
 
@@ -93,7 +93,7 @@ pub record Advanced (a b : ℕ) (p q : Pool) : Type 0 where
   pub tail : holder q a ≡ nextOf (p .cells) (holder p a)
   pub element : holder q b ≡ sublist (p .cells) (holder p a)
   pub borrowed : List Cell
-  pub lent : Lent (sublist (p .cells) (holder p a) ∷ nextOf (p .cells) (holder p a) ∷ []) (p .cells) borrowed
+  pub lent : Raised (sublist (p .cells) (holder p a) ∷ nextOf (p .cells) (holder p a) ∷ []) (p .cells) borrowed
   pub freed : ℕ
   pub erased : Erased (q .free) (q .cells) (p .free) borrowed (holder p a) [] freed
 
@@ -105,7 +105,7 @@ pub record Borrowed (a b : ℕ) (p q : Pool) : Type 0 where
   pub kept : holder q a ≡ holder p a
   pub shared : holder q b ≡ holder p a
   pub free : q .free ≡ p .free
-  pub cells : Lent (holder p a ∷ []) (p .cells) (q .cells)
+  pub cells : Raised (holder p a ∷ []) (p .cells) (q .cells)
 
 abbrev pub BorrowShares : (form : Form) → Engine → Type 0
 BorrowShares form E = Makes form E (λ o p q. o .code ≡ BORROW → Borrowed (o .a) (o .b) p q)

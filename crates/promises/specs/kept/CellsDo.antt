@@ -28,7 +28,7 @@ use Rattle.calls.specs.Entry.{shown, over}
 use Rattle.promises.specs.Engine.{ours}
 use Rattle.promises.specs.Grounds.{withB, UsesB}
 use Rattle.promises.specs.Erasing.{Erased}
-use Rattle.promises.specs.Cells.{Makes, Sized, SizesStay, HoldersStay, Only, sublist, Lent, Prefixed, PrefixTakesHead, PrefixListTakesHead, Decapped, DecapFreesToHead, Advanced, AdvErases, Borrowed, BorrowShares, EraseErases}
+use Rattle.promises.specs.Cells.{Makes, Sized, SizesStay, HoldersStay, Only, sublist, Raised, Prefixed, PrefixTakesHead, PrefixListTakesHead, Decapped, DecapFreesToHead, Advanced, AdvErases, Borrowed, BorrowShares, EraseErases}
 use Rattle.promises.specs.laws.Tells.{tells-among}
 use Rattle.promises.specs.laws.OneOperation.{one-accepted, effect-stored}
 use Rattle.promises.specs.laws.FreeCells.{free-zero}
@@ -164,7 +164,7 @@ pub decap-frees : (form : Form) → DecapFreesToHead form (ours form)
 decap-frees form = by-op form DECAP (λ o p q. Decapped (o .a) (o .b) p q) decap-beheads
 
 -- two lists borrowed one after the other
-lent-both : (cs : List Cell) (x y z : ℕ) → NullOrLive cs x → NullOrLive cs y → x ≡ z → Lent (z ∷ y ∷ []) cs (share (share cs x) y)
+lent-both : (cs : List Cell) (x y z : ℕ) → NullOrLive cs x → NullOrLive cs y → x ≡ z → Raised (z ∷ y ∷ []) cs (share (share cs x) y)
 unfolding tally
 lent-both cs x y z ox oy e = record {
   size = share-length (share cs x) y ∙ share-length cs x;

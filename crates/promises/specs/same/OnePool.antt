@@ -32,7 +32,7 @@ use Rattle.promises.specs.Grounds.{withB, UsesB}
 use Rattle.promises.specs.Demand1.{wordsOf}
 use Rattle.promises.specs.Demand2.{Demand2}
 use Rattle.promises.specs.Erasing.{Erased}
-use Rattle.promises.specs.Cells.{Sized, Only, nth, Lent, Prefixed, Decapped, Advanced, Borrowed, Turned, Copied, Joined, asking, Laid, ReadIn}
+use Rattle.promises.specs.Cells.{Sized, Only, nth, Raised, Prefixed, Decapped, Advanced, Borrowed, Turned, Copied, Joined, asking, Laid, ReadIn}
 use Rattle.promises.specs.laws.Tells.{tells-among}
 use Rattle.promises.specs.laws.TestsTell.{shown-holders}
 use Rattle.promises.specs.laws.ErasingLaws.{one-end}
@@ -71,7 +71,7 @@ only-once {x} {y} {p} {q} {r} a b c = go (ℕ-discrete c x)
     go (yes e) = subst (λ (d : ℕ). at (q .cells) d ≡ at (r .cells) d) (sym e) (a .here ∙ sym (b .here))
     go (no n) = a .rest c n ∙ sym (b .rest c n)
 
-pub lent-once : {xs : List ℕ} {cs ds es : List Cell} → Lent xs cs ds → Lent xs cs es → ds ≡ es
+pub lent-once : {xs : List ℕ} {cs ds es : List Cell} → Raised xs cs ds → Raised xs cs es → ds ≡ es
 lent-once {xs} {cs} {ds} {es} a b = same-cells ds es (a .size ∙ sym (b .size)) (λ c n. a .counts c n ∙ sym (b .counts c n))
 
 -- what every operation keeps
