@@ -19,7 +19,7 @@ use lines::order::Order;
 use lines::order::parse;
 use lines::printed::put_question;
 use lines::printed::put_reply;
-use scan::limits::Record;
+use records::Record;
 
 // The number of words in use, and of bytes printed.
 pub struct Answered {

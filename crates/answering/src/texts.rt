@@ -9,7 +9,7 @@ ghost use Rattle.answering.specs.Kept.{lineRoom, Prints, Texts};
 ghost use Rattle.answering.specs.Trim.{trimmed};
 use answers::Answer;
 use lines::record::fill_record;
-use scan::limits::Record;
+use records::Record;
 
 // READ's text, from a place of the line on, at the start of the lent bytes.
 pub fn fill_text(line: &[u8], at: usize, page: &mut [u8]) -> usize

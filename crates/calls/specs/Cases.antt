@@ -19,7 +19,7 @@ use Rattle.table.specs.Limits.{holdersMost}
 use Rattle.text.specs.Limits.{recordBytes}
 use Rattle.text.specs.ListText.{textOf}
 use Rattle.text.specs.Marks.{listIn}
-use Rattle.text.specs.Text.{scanned, sizeFault, verdict}
+use Rattle.text.specs.Text.{scanned, others, sizeFault, verdict}
 use Rattle.calls.specs.Entry.{over}
 use Rattle.calls.specs.Run.{operations}
 use Rattle.calls.specs.Chars.{chars}
@@ -152,5 +152,5 @@ stated =
     []
 
 pub edges : map row cases ≡ stated
-unfolding sizeFault verdict scanned listIn len order extent reversed onto performed refusal effect read load fresh laid operations listFrom erase dropped total dropping step visit tally frees same pfl span
+unfolding others sizeFault verdict scanned listIn len order extent reversed onto performed refusal effect read load fresh laid operations listFrom erase dropped total dropping step visit tally frees same pfl span
 edges = refl

@@ -14,7 +14,7 @@ use lines::gather::Gathered;
 use lines::gather::Line;
 use lines::gather::gather;
 use lines::printed::Reply;
-use scan::limits::Record;
+use records::Record;
 use table::Cell;
 use table::Shape;
 

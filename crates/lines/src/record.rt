@@ -8,7 +8,7 @@ ghost use Rattle.lines.specs.Printed.{filled};
 ghost use Rattle.lines.specs.Splitting.{lineMost};
 ghost use Rattle.lines.specs.Meaning.{Puts};
 ghost use Rattle.lines.specs.laws.RecordLaws.{filledLength};
-use scan::limits::Record;
+use records::Record;
 
 fn byte_or_blank(line: &[u8], i: usize) -> u8
     ensures { λ r. ⌜ r ≡ getD (now (line .entry)) i blank ⌝ }

@@ -5,7 +5,7 @@ use mathlib.Core.Path.{_≡_}
 use mathlib.Core.Logic.{_≢_}
 use mathlib.Core.List.{List, _++_}
 use Prim.Native.Nat.{ℕ, _+_, _*_, _≤_, _<_, _^_}
-use lib.ListN.{length, getD, take}
+use lib.ListN.{length, getD, take, drop}
 use Rattle.answers.specs.Answers.{DONE}
 use Rattle.lists.specs.Lst.{Lst, order, extent}
 use Rattle.pool.specs.Pool.{Pool, kindOf, elemOf, countOf, nextOf, holder, frees, Sound}
@@ -18,7 +18,7 @@ use Rattle.calls.specs.Entry.{workWords, shown, over}
 use Rattle.calls.specs.Run.{operations}
 use Rattle.promises.specs.Engine.{Engine}
 use Rattle.promises.specs.Grounds.{BadTable, UsesB}
-use Rattle.promises.specs.TextGrounds.{Has, TakesRecords, plain, Records}
+use Rattle.promises.specs.TextGrounds.{AtEnd, Has, TakesRecords, plain, Records}
 use Rattle.promises.specs.Machine.{Lists, assign, turn, says, turnAll, Says}
 use Rattle.promises.specs.Demand1.{wordsOf}
 use Rattle.promises.specs.Cells.{SizesStay, HoldersStay, PrefixTakesHead, PrefixListTakesHead, DecapFreesToHead, AdvErases, BorrowShares, EraseErases, InvTurns, CinvCopies, ConcJoins, AskingLeaves, LiveCellsStay, ReadingUsesItsCells}
@@ -103,12 +103,14 @@ abbrev pub ReadingTakes : Engine → Type 0
 ReadingTakes E = (ts ws : List ℕ) (h : ℕ) (xs : List ℕ) → let r = E .read ts ws h xs in r .answer ≡ DONE
     → TakesRecords xs (r .count)
 
--- the further call hands back what stands behind the records that the check takes, and where it refuses the empty part
--- at the end
+-- the further call hands back what stands behind the records that the check takes, or the empty part at the end: where
+-- only blanks stand there, and where the check refuses
 abbrev pub RestGives : Engine → Type 0
 RestGives E =
-    (xs : List ℕ) → let r = E .check xs in
-    (r .no ≡ DONE → E .rest xs ≡ r .taken) × (r .no ≢ DONE → E .rest xs ≡ length xs)
+    (xs : List ℕ) → let r = E .check xs in let left = drop (r .taken) xs in
+    (r .no ≡ DONE → (AtEnd left → ⊥) → E .rest xs ≡ r .taken)
+    × (r .no ≡ DONE → AtEnd left → E .rest xs ≡ length xs)
+    × (r .no ≢ DONE → E .rest xs ≡ length xs)
 
 -- writing gives the text of the list, and the bytes written
 abbrev pub WritingGives : (form : Form) → Engine → Type 0

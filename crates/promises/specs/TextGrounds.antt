@@ -11,6 +11,7 @@ use Rattle.lists.specs.Lst.{Lst, extent}
 use Rattle.pool.specs.Tally.{occ}
 use Rattle.pool.specs.Pool.{holder, ListAt, frees}
 use Rattle.text.specs.Limits.{levels, recordBytes, textMost, digitsMost, atomsEnd}
+use Rattle.text.specs.Text.{others}
 use Rattle.text.specs.ListText.{textOf, isDigit, bare}
 use Rattle.text.specs.Writing.{usable, depthAfter}
 use Rattle.calls.specs.Entry.{workWords, shown}
@@ -21,9 +22,9 @@ use Rattle.table.specs.declared.Form.{Form}
 abbrev pub BadText : List ℕ → Type 0
 BadText xs = (length xs % recordBytes ≢ 0) ⊎ (textMost < length xs)
 
--- nothing to read
+-- nothing to read: all bytes are blanks
 abbrev pub AtEnd : List ℕ → Type 0
-AtEnd xs = length xs ≡ 0
+AtEnd xs = others xs ≡ 0
 
 -- a number carried along characters
 unfoldable pub along : (ℕ → ℕ → ℕ) → ℕ → List ℕ → ℕ

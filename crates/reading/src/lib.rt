@@ -58,7 +58,7 @@ fn read_open(s: Shape, t: &mut [u32], w: &mut [u32], h: u32, text: &[u8]) -> Out
     if a >= s.holders() {
         return Outcome::refused(Answer::HOLDER);
     }
-    let fault = scan::size_fault(text);
+    let fault = records::size_fault(text);
     if fault != Answer::DONE {
         return Outcome::refused(fault);
     }

@@ -1,18 +1,20 @@
 -- The check and the rest: what scan says is the verdict where the size is right, and the rest begins behind the bytes taken or at the end.
-use Prim.Native.Nat.{ℕ, _-_, _≤_}
+use Prim.Native.Nat.{ℕ, _-_, _%_}
 use mathlib.Core.Path.{_≡_, refl, sym, ap, _∙_}
 use mathlib.Core.Logic.{_≢_}
+use mathlib.Core.Bool.{Bool, true, false}
 use mathlib.Core.List.{List}
 use native.Mathlib.Omega.{arith}
 use lib.ListN.{length, drop, take, length-drop}
 use lib.Seq.{take-all}
-use borrow.Author.Tests.{eq-eqb, ne-eqb}
 use Rattle.answers.specs.Answers.{outcome, refused, done}
 use Rattle.answers.specs.declared.Outcome.{Outcome}
 use Rattle.text.specs.Text as text
-use Rattle.text.specs.Text.{begin, State, at, taken, run, answer, scanned, sizeFault, verdict, restAt}
-use Rattle.text.specs.laws.Accepted.{taken-within}
-use Rattle.text.specs.laws.SizeLaws.{right-size, wrong-size}
+use Rattle.text.specs.Limits.{recordBytes}
+use Rattle.text.specs.Text.{begin, State, at, taken, run, answer, scanned, atEnd, sizeFault, verdict, restAt}
+use Rattle.text.specs.laws.Accepted.{accepted-size, taken-within}
+use Rattle.text.specs.laws.Rest.{rest-refused, taken-as, rest-blank, rest-more}
+use Rattle.text.specs.laws.SizeLaws.{its-size, right-size, wrong-size}
 use Rattle.scan.specs.Outcomes.{scannedAs, answeredAs}
 use Rattle.scan.specs.declared.Scanned.{Scanned}
 
@@ -42,19 +44,31 @@ module _ (s : List ℕ) {r : Scanned} (z : sizeFault s ≡ 0) (e : r ≡ scanned
       let none : (scanned s) .taken ≡ 0 = refused-none (run (at begin 0) s) (λ w. q (no ∙ w)) in
       ap (outcome (r .answer)) (sym none) ∙ ap (λ (k : ℕ). outcome k ((scanned s) .taken)) no ∙ ap answeredAs (sym sized)
 
--- where the rest begins
+-- where the rest begins, by what check says
 module _ (s : List ℕ) {a : Outcome} (e : a ≡ answeredAs (verdict s)) where
-  pub rest-taken : a .answer ≡ 0 → (a .count ≡ restAt s) × (a .count ≤ length s)
-  rest-taken z =
-      let n : (verdict s) .no ≡ 0 = ap (λ (x : Outcome). x .answer) (sym e) ∙ z in
-      let t : a .count ≡ (verdict s) .taken = ap (λ (x : Outcome). x .count) e in
-      let q : verdict s ≡ text.done ((verdict s) .taken) = ap (λ (k : ℕ). record { no = k; taken = (verdict s) .taken }) n in
-      (t ∙ simp (eq-eqb _ _ n), omega (arith, taken-within s ((verdict s) .taken) q))
+  number : a .answer ≡ verdict s .no
+  number = ap (λ (x : Outcome). x .answer) e
 
-  pub rest-end : (a .answer ≡ 0 → ⊥) → (length s ≡ restAt s) × (length s ≤ length s)
-  rest-end z =
-      let n : (verdict s) .no ≡ 0 → ⊥ = λ h. z (ap (λ (x : Outcome). x .answer) e ∙ h) in
-      (simp (ne-eqb _ _ n), omega arith)
+  count : a .count ≡ verdict s .taken
+  count = ap (λ (x : Outcome). x .count) e
+
+  pub refused-end : a .answer ≢ 0 → length s ≡ restAt s
+  refused-end d = sym (rest-refused s (λ z. d (number ∙ z)))
+
+  module _ (z : a .answer ≡ 0) where
+    pub whole-records : (length s % recordBytes ≡ 0) × (a .count % recordBytes ≡ 0)
+    whole-records =
+        let took = taken-as s (sym number ∙ z) in
+        (its-size s (accepted-size s (verdict s .taken) took .0) .whole, omega (arith, count, taken-within s (verdict s .taken) took .1))
+
+    left : {b : Bool} → b ≡ atEnd (drop (a .count) s) → atEnd (drop (verdict s .taken) s) ≡ b
+    left q = ap (λ (k : ℕ). atEnd (drop k s)) (sym count) ∙ sym q
+
+    pub blank-end : true ≡ atEnd (drop (a .count) s) → length s ≡ restAt s
+    blank-end q = sym (rest-blank s (sym number ∙ z) (left q))
+
+    pub more-behind : false ≡ atEnd (drop (a .count) s) → a .count ≡ restAt s
+    more-behind q = count ∙ sym (rest-more s (sym number ∙ z) (left q))
 
 -- the part from a start to the end, as a slice's part has it
 pub whole-rest : (a : ℕ) (s : List ℕ) → take (length s - a) (drop a s) ≡ drop a s

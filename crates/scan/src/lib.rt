@@ -3,14 +3,14 @@ ghost use mathlib.Core.Path.{_≡_};
 ghost use Prim.Native.Nat.{_+_, _≤_};
 ghost use lib.ListN.{length, drop};
 ghost use denote.Ref.{ptr};
-ghost use Rattle.text.specs.Text.{atEnd, sizeFault, verdict, restAt};
+ghost use Rattle.text.specs.Text.{verdict, restAt};
 ghost use Rattle.scan.specs.Outcomes.{scannedAs, answeredAs, refusedScan, doneScan, told, Sized};
 ghost use Rattle.scan.specs.Places.{outlook, overAt};
-use crate::limits::Record;
 use crate::step::Place;
 use crate::step::Step;
 use answers::Answer;
 use answers::Outcome;
+use records::Record;
 
 pub mod limits;
 pub mod octals;
@@ -83,33 +83,10 @@ pub fn scan(text: &[u8]) -> Scanned
     Scanned::refused(Answer::NOT_A_LIST)
 }
 
-// Nothing to read.
-fn at_end(text: &[u8]) -> bool
-    ensures { λ r. ⌜ r ≡ atEnd (now (text .entry)) ⌝ }
-{
-    text.len() == 0
-}
-
-// What is wrong with a text before it is read as a list: TEXT SIZE or END, else DONE.
-pub fn size_fault(text: &[u8]) -> u32
-    ensures { λ r. ⌜ r ≡ sizeFault (now (text .entry)) ⌝ }
-{
-    if text.len() % Record::BYTES != 0 {
-        return Answer::TEXT_SIZE;
-    }
-    if text.len() > Record::TEXT {
-        return Answer::TEXT_SIZE;
-    }
-    if at_end(text) {
-        return Answer::END;
-    }
-    Answer::DONE
-}
-
 pub fn check(text: &[u8]) -> Outcome
     ensures { λ r. ⌜ r ≡ answeredAs (verdict (now (text .entry))) ⌝ }
 {
-    let fault = size_fault(text);
+    let fault = records::size_fault(text);
     if fault != Answer::DONE {
         return Outcome::refused(fault);
     }
@@ -125,15 +102,19 @@ fn rest_start(text: &[u8]) -> usize
     ensures { λ r. ⌜ (r ≡ restAt (now (text .entry))) × (r ≤ length (now (text .entry))) ⌝ }
 {
     let a = check(text);
-    if a.answer == Answer::DONE {
-        a.count as usize
-    } else {
+    if a.answer != Answer::DONE {
+        return text.len();
+    }
+    let start = a.count as usize;
+    if records::at_end(text, start) {
         text.len()
+    } else {
+        start
     }
 }
 
 // The part of the lent text behind the record in which its first list ends. It is empty, at the text's end, where the
-// check refuses.
+// check refuses or only blanks are left.
 pub fn rest(text: &[u8]) -> &[u8]
     ensures { λ r. ⌜ now r ≡ drop (restAt (now (text .entry))) (now (text .entry)) ⌝ }
     ensures own { λ r. ⌜ (ptr r .0 ≡ ptr (text .entry) .0) ×

@@ -1,10 +1,10 @@
 -- The text form as an automaton over the characters: 40 is "(", 41 ")", 44 ",", 32 the blank, 48 to 55 octal digits.
 -- One character gives a mark (the next place) or a fault; a state that refuses or has taken its records stays, so the
 -- earliest fault wins.
-use Prim.Native.Nat.{ℕ, _+_, _-_, _*_, _%_}
+use Prim.Native.Nat.{ℕ, suc, _+_, _-_, _*_, _%_}
 use mathlib.Core.List.{List, [], _∷_}
-use mathlib.Core.Bool.{Bool, true, false, cond, not, _||_}
-use lib.ListN.{length}
+use mathlib.Core.Bool.{Bool, true, false, cond, not, _||_, _&&_}
+use lib.ListN.{length, drop}
 use lib.Dec.{eqb, leb, ltb}
 use Rattle.answers.specs.Answers.{DONE, TEXT-SIZE, END, NOT-A-LIST, ATOM, DEEP, unless}
 use Rattle.text.specs.Limits.{levels, recordBytes, textMost, digitsMost, atomsEnd}
@@ -170,9 +170,14 @@ scanned s = answer (run (at begin 0) s)
 abbrev pub badText : List ℕ → Bool
 badText s = not (eqb (length s % recordBytes) 0) || ltb textMost (length s)
 
--- END: nothing to read
+-- the bytes that are no blanks
+unfoldable pub others : List ℕ → ℕ
+others [] = 0
+others (b ∷ s) = cond (eqb b 32) (others s) (suc (others s))
+
+-- END: nothing to read, no byte but blanks
 abbrev pub atEnd : List ℕ → Bool
-atEnd s = eqb (length s) 0
+atEnd s = eqb (others s) 0
 
 -- what is wrong before the text is read as a list
 unfoldable pub sizeFault : List ℕ → ℕ
@@ -182,6 +187,6 @@ sizeFault s = cond (badText s) TEXT-SIZE (cond (atEnd s) END DONE)
 unfoldable pub verdict : List ℕ → Answer
 verdict s = unless (sizeFault s) refusal (scanned s)
 
--- where the records after the first list begin: the end where the check refuses
+-- where the records after the first list begin: the end where the check refuses, or finds nothing more to read
 abbrev pub restAt : List ℕ → ℕ
-restAt s = cond (eqb ((verdict s) .no) 0) ((verdict s) .taken) (length s)
+restAt s = cond (eqb (verdict s .no) 0 && not (atEnd (drop (verdict s .taken) s))) (verdict s .taken) (length s)

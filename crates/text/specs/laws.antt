@@ -1,3 +1,4 @@
+pub mod Blanks
 pub mod SizeLaws
 pub mod TextLaws
 pub mod MarkLaws
@@ -7,5 +8,6 @@ pub mod Digits
 pub mod OpenLists
 pub mod ReadBack
 pub mod Accepted
+pub mod Rest
 pub mod Bounds
 pub mod WritingLaws

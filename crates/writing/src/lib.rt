@@ -17,7 +17,7 @@ use answers::Answer;
 use answers::Outcome;
 use entry::Entry;
 use entry::Work;
-use scan::limits::Record;
+use records::Record;
 use table::Form;
 use table::Shape;
 

@@ -18,7 +18,8 @@ use Rattle.table.specs.Limits.{holdersTold}
 use Rattle.text.specs.laws.Accepted.{accepted, accepted-size}
 use Rattle.text.specs.ListText.{textOf, written}
 use Rattle.text.specs.Marks.{listIn}
-use Rattle.text.specs.Text.{Answer, done, verdict}
+use Rattle.text.specs.Text.{Answer, done, others, verdict}
+use Rattle.text.specs.laws.Rest.{rest-refused, rest-blank, rest-more}
 use Rattle.text.specs.Writing.{usable}
 use Rattle.text.specs.laws.WritingLaws.{writes, written-read, read-written}
 use Rattle.calls.specs.Entry.{workWords, badTable, entryFault, noHolder, shown, unsound, stored, used, over}
@@ -62,8 +63,8 @@ operation-gives form ts ws rs o m k e =
       (n, a .results ∙ ap (λ (qs : List ℕ). over qs rs) w),
     )
 
-others : (form : Form) → OthersStay form (ours form)
-others form ts ws rs o m k e i na nb = subst (Has form (ranIn form ts ws (wordsOf o) rs .table) i) (turn-other m o i na nb) (operation-gives form ts ws rs o m k e .0 i)
+others-stay : (form : Form) → OthersStay form (ours form)
+others-stay form ts ws rs o m k e i na nb = subst (Has form (ranIn form ts ws (wordsOf o) rs .table) i) (turn-other m o i na nb) (operation-gives form ts ws rs o m k e .0 i)
 
 script-gives : (form : Form) → ScriptsGive form (ours form)
 unfolding turnAll Says
@@ -96,10 +97,9 @@ checking : (form : Form) → CheckingGives (ours form)
 checking form xs e = let (t, r, q) = text-list xs e in (listIn xs, t, r, q)
 
 after-list : (form : Form) → RestGives (ours form)
-after-list form xs = ((λ e. ap begins (eq-eqb (verdict xs .no) 0 e)), (λ n. ap begins (ne-eqb (verdict xs .no) 0 n)))
-  where
-    begins : Bool → ℕ
-    begins b = cond b (verdict xs .taken) (length xs)
+after-list form xs =
+    let left = others (drop (verdict xs .taken) xs) in
+    ((λ e more. rest-more xs e (ne-eqb left 0 more)), (λ e none. rest-blank xs e (eq-eqb left 0 none)), rest-refused xs)
 
 abbrev writing : (form : Form) → List ℕ → List ℕ → Lst → List ℕ → Write
 writing form ts ws l out = record { answer = DONE; count = length (written l); work = used form ts ws; output = over (written l) out }
@@ -190,7 +190,7 @@ demand2 form = record {
   conc-joins = conc-joins-cells form;
   asking-leaves = asking-leaves form;
   live-cells-stay = live-cells-stay form;
-  others-stay = others form;
+  others-stay = others-stay form;
   scripts-give = script-gives form;
   reading-gives = reading form;
   reading-uses-its-cells = reading-uses form;

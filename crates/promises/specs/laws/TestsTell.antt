@@ -25,7 +25,7 @@ use Rattle.table.specs.View.{shape}
 use Rattle.table.specs.Sizes.{sizesFit, cellsOf, shapeOf}
 use Rattle.table.specs.laws.SizesLaws.{fits-told}
 use Rattle.text.specs.Limits.{recordBytes, textMost}
-use Rattle.text.specs.Text.{badText, atEnd, sizeFault}
+use Rattle.text.specs.Text.{badText, others, atEnd, sizeFault}
 use Rattle.calls.specs.Entry.{badTable, badWork, entryFault, noHolder, shown, unsound}
 use Rattle.calls.specs.Run.{badScript, badResults, scriptFault}
 use Rattle.promises.specs.Grounds.{BadSize, BadTable, BadWork, BadScript, Unsound, NoHolder, entryRows, scriptRows, withB, takingFirst, fillingB, takingOne, UsesB, onward, SomeShared, BadCode, BadHolder, Same, Null, Occupied, Shared, Needs, NoRoom}
@@ -122,7 +122,7 @@ pub size-answers : (xs : List ℕ) → Answers (sizeRows xs) (sizeFault xs)
 unfolding sizeFault
 size-answers xs =
     first itself (Answers (drop 1 (sizeRows xs))) (badText xs) TEXT-SIZE _ (tells-text xs) refl (λ _.
-    first itself (λ m. m ≡ DONE) (atEnd xs) END DONE (tells-eq (length xs) 0) refl (λ _. refl))
+    first itself (λ m. m ≡ DONE) (atEnd xs) END DONE (tells-eq (others xs) 0) refl (λ _. refl))
 
 pub size-each : (xs : List ℕ) → Each (λ n. n ≡ DONE → ⊥) (sizeRows xs)
 size-each xs = ((λ z. omega arith), ((λ z. omega arith), tt))

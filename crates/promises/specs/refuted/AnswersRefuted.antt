@@ -10,7 +10,6 @@ use Rattle.lists.specs.Lst.{extent}
 use Rattle.pool.specs.Operations.{load, read, listFrom}
 use Rattle.pool.specs.Tally.{Number, start, miss}
 use Rattle.text.specs.Marks.{listIn}
-use Rattle.text.specs.Text.{scanned, sizeFault, verdict}
 use Rattle.calls.specs.Entry.{shown}
 use Rattle.calls.specs.Read.{readingIn}
 use Rattle.calls.specs.Write.{writingIn}
@@ -24,8 +23,8 @@ use Rattle.promises.specs.kept.Demand1Kept.{demand1}
 use Rattle.promises.specs.OneOutcome.{one-answer}
 use Rattle.promises.specs.refuted.WrongEngines.{alwaysAnswers}
 use Rattle.promises.specs.refuted.WrongTexts.{countsNoDigits, runUncounted, readsOver, keepsOneBack, writesWhatFits}
-use Rattle.promises.specs.refuted.Computed.{computed}
-use Rattle.promises.specs.refuted.Refuted.{zeros, prefix, one, none-used}
+use Rattle.promises.specs.refuted.Computed.{checked, computed}
+use Rattle.promises.specs.refuted.Refuted.{zeros, one, full, none-used}
 use Rattle.table.specs.declared.Form.the-variants.{Four}
 
 -- a text of one record
@@ -37,7 +36,7 @@ null = record72 (40 ∷ 41 ∷ []) 70
 
 -- one answer for every call: a text of 0 bytes has another than the null list
 pub always-answers : (n : ℕ) → CheckRefusals (alwaysAnswers n) → ⊥
-unfolding sizeFault verdict scanned
+unfolding checked
 always-answers n d =
     let a : n ≡ 14 = one-answer (checkRows []) _ _ (d []) (demand1 Four .check-refusals []) in
     let b : n ≡ 0 = one-answer (checkRows null) _ _ (d null) (demand1 Four .check-refusals null) in
@@ -45,21 +44,18 @@ always-answers n d =
 
 -- twelve zeros are 16
 pub counts-no-digits-done : CheckRefusals countsNoDigits → ⊥
-unfolding sizeFault verdict scanned runUncounted
+unfolding checked runUncounted
 counts-no-digits-done d =
     let xs = record72 (40 ∷ (replicate 12 48 ++ (41 ∷ []))) 58 in
     let e : _≡_ {A = ℕ} 0 16 = one-answer (checkRows xs) _ _ (d xs) (demand1 Four .check-refusals xs) in
     omega arith
 
--- a table of one cell, in holder 0
-abbrev full : List ℕ
-full = readsOver .run one (zeros 2) (prefix 0 5) (zeros 2) .table
-
 pub reads-over : ReadRefusals Four readsOver → ⊥
-unfolding computed readingIn sizeFault verdict scanned
+unfolding computed readingIn
 reads-over d =
-    let e : _≡_ {A = ℕ} 0 10 = one-answer (readRows Four full (zeros 2) 0 null) _ _ (d full (zeros 2) 0 null)
-    (demand1 Four .read-refusals full (zeros 2) 0 null) in
+    let t = full readsOver in
+    let e : _≡_ {A = ℕ} 0 10 = one-answer (readRows Four t (zeros 2) 0 null) _ _ (d t (zeros 2) 0 null)
+    (demand1 Four .read-refusals t (zeros 2) 0 null) in
     omega arith
 
 -- no output takes no text
@@ -71,7 +67,7 @@ writes-what-fits d =
 
 -- one cell is free, and (1) needs one
 pub keeps-one-back : NoRoomToRead Four keepsOneBack → ⊥
-unfolding computed readingIn sizeFault verdict scanned listIn extent load read
+unfolding computed readingIn listIn extent load read
 keeps-one-back d =
     let xs = record72 (40 ∷ 49 ∷ 41 ∷ []) 69 in
     let (n, _) = first-none (checkRows xs) (λ m. m ≡ DONE) DONE

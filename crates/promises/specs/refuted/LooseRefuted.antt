@@ -10,7 +10,6 @@ use Rattle.pool.specs.Pool.{Cell, Chain}
 use Rattle.pool.specs.Operations.{pfl, copy, cinv, load, read}
 use Rattle.pool.specs.Script.{PFL, BORROW, ERASE, Operation}
 use Rattle.text.specs.Marks.{listIn}
-use Rattle.text.specs.Text.{scanned, sizeFault, verdict}
 use Rattle.calls.specs.SetUp.{setUp}
 use Rattle.calls.specs.Entry.{shown}
 use Rattle.calls.specs.Read.{readingIn}
@@ -23,7 +22,7 @@ use Rattle.promises.specs.laws.ErasingLaws.{one-end}
 use Rattle.promises.specs.laws.TextOnce.{spells-ours}
 use Rattle.promises.specs.refuted.WrongEngines.{setsUpDirty, clearsFirst, copying, waitsInLine}
 use Rattle.promises.specs.refuted.WrongTexts.{countsRefused, keepsCells, losesRest, restAtStart, loadLate, takesLate}
-use Rattle.promises.specs.refuted.Computed.{computed}
+use Rattle.promises.specs.refuted.Computed.{checked, computed}
 use Rattle.promises.specs.refuted.Refuted.{zeros, prefix, two}
 use Rattle.table.specs.declared.Form.the-variants.{Four}
 
@@ -65,7 +64,7 @@ clears-write-work d = cleared-nine (d [] nine 0 [] .0 (λ n. n .0 (inl (omega ar
 
 -- "(" and blanks are no list, and the one cell stays free
 pub keeps-cells : RefusedRead keepsCells → ⊥
-unfolding computed readingIn verdict scanned
+unfolding computed readingIn
 keeps-cells d =
     let one = setUp (zeros 70) 1 .table in
     let e = d one (zeros 2) 0 (40 ∷ replicate 71 32) (λ z. omega arith) .0 in
@@ -73,7 +72,7 @@ keeps-cells d =
 
 -- a text of 0 bytes is refused, with 0 bytes taken
 pub counts-refused : RefusedCheck countsRefused → ⊥
-unfolding sizeFault verdict
+unfolding checked
 counts-refused d = omega (arith, d [] (λ z. omega arith))
 
 -- the null list in one record, and a record behind it
@@ -81,13 +80,13 @@ abbrev text : List ℕ
 text = 40 ∷ 41 ∷ (replicate 70 32 ++ replicate 72 40)
 
 pub loses-rest : RestGives losesRest → ⊥
-unfolding sizeFault verdict scanned
-loses-rest d = let e : _≡_ {A = ℕ} 144 72 = d text .0 refl in omega arith
+unfolding checked
+loses-rest d = let e : _≡_ {A = ℕ} 144 72 = d text .0 refl (λ z. omega arith) in omega arith
 
 -- a record of "(" is no list, and its end is at 72
 pub rest-at-start : RestGives restAtStart → ⊥
-unfolding sizeFault verdict scanned
-rest-at-start d = let e : _≡_ {A = ℕ} 0 72 = d (replicate 72 40) .1 (λ z. omega arith) in omega arith
+unfolding checked
+rest-at-start d = let e : _≡_ {A = ℕ} 0 72 = d (replicate 72 40) .2 (λ z. omega arith) in omega arith
 
 -- after PFA to holder 0, BORROW of it is another cell
 pub copying-refuted : BorrowShares Four copying → ⊥
@@ -112,7 +111,7 @@ waits-in-line d =
 
 -- ((1),2) in three cells: the element of the first is the second, where the late reader has the third
 pub takes-late : ReadingUsesItsCells Four takesLate → ⊥
-unfolding computed readingIn verdict scanned listIn extent load read loadLate Laid Chain
+unfolding computed readingIn listIn extent load read loadLate Laid Chain
 takes-late d =
     let three = setUp (zeros 78) 3 .table in
     let xs : List ℕ = 40 ∷ 40 ∷ 49 ∷ 41 ∷ 44 ∷ 50 ∷ 41 ∷ replicate 65 32 in

@@ -102,7 +102,7 @@ number-le (hit p r) = omega (arith, number-le r)
 number-le (miss p r) = omega (arith, number-le r)
 
 -- a table that the engine itself has made: one cell, in use
-abbrev full : Engine → List ℕ
+abbrev pub full : Engine → List ℕ
 full E = E .run one (zeros 2) (prefix 0 5) (zeros 2) .table
 
 -- a made-up number: it counts cells, and there is one

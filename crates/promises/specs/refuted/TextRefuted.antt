@@ -15,7 +15,6 @@ use Rattle.pool.specs.laws.PoolLaws.{ListAt-unique}
 use Rattle.pool.specs.Operations.{load, read, listFrom}
 use Rattle.text.specs.ListText.{textOf}
 use Rattle.text.specs.Marks.{listIn}
-use Rattle.text.specs.Text.{scanned, sizeFault, verdict}
 use Rattle.calls.specs.Entry.{badTable, shown}
 use Rattle.calls.specs.Read.{readingIn}
 use Rattle.calls.specs.Write.{writingIn}
@@ -25,7 +24,7 @@ use Rattle.promises.specs.laws.TestsTell.{tells-table, tells-sound}
 use Rattle.promises.specs.Demand2.{Words, Ready, ReadingGives, ReadingTakes, CheckingGives, CheckingTakes, WritingGives, WrittenReadsBack, ReadWritesBack}
 use Rattle.promises.specs.laws.TextEnds.{plain-records}
 use Rattle.promises.specs.refuted.WrongTexts.{takesAll, countsNoDigits, runUncounted, readsReversed, leadsWithZero, zeroed, writesNullAsZero, nullAsZero}
-use Rattle.promises.specs.refuted.Computed.{computed}
+use Rattle.promises.specs.refuted.Computed.{checked, computed}
 use Rattle.promises.specs.refuted.Refuted.{zeros, one, two, two-null}
 use Rattle.table.specs.declared.Form.the-variants.{Four}
 
@@ -34,7 +33,7 @@ blanks n = replicate n 32
 
 -- (1,2) is read as (2,1)
 pub reads-reversed : ReadingGives Four readsReversed → ⊥
-unfolding computed readingIn verdict scanned listIn extent load read reversed onto ListAt
+unfolding computed readingIn listIn extent load read reversed onto ListAt
 reads-reversed d =
     let xs : List ℕ = 40 ∷ 49 ∷ 44 ∷ 50 ∷ 41 ∷ blanks 67 in
     let q = shown Four (readsReversed .read two (zeros 4) 0 xs .table) in
@@ -49,7 +48,7 @@ nullText = 40 ∷ 41 ∷ blanks 142
 
 -- the list's record is full before the second
 pub takes-all-reading : ReadingTakes takesAll → ⊥
-unfolding computed readingIn verdict scanned listIn extent load read along
+unfolding computed readingIn listIn extent load read along
 takes-all-reading d = d one (zeros 2) 0 nullText refl .1 (40 ∷ 41 ∷ blanks 70) 32 (blanks 71) refl .1 (inr refl, refl, refl)
 
 all-blank : (n : ℕ) → occ (blanks n) 32 ≡ n
@@ -59,7 +58,7 @@ all-blank (suc n) = omega (arith, all-blank n)
 
 -- fewer than 72 blanks stand behind a list, where these are 142
 pub takes-all-checking : CheckingGives takesAll → ⊥
-unfolding sizeFault verdict scanned tally same
+unfolding checked tally same
 takes-all-checking d =
     let (l, t, r, _) = d nullText refl in
     let e : 142 ≡ occ (t ++ blanks (r .blanks)) 32 = ap (λ (us : List ℕ). occ us 32) (r .bytes) in
@@ -67,7 +66,7 @@ takes-all-checking d =
 
 -- twelve zeros are taken for an atom
 pub counts-no-digits : CheckingTakes countsNoDigits → ⊥
-unfolding sizeFault verdict scanned runUncounted along
+unfolding checked runUncounted along
 counts-no-digits d =
     let us : List ℕ = 40 ∷ replicate 11 48 in
     let n = d (us ++ (48 ∷ 41 ∷ blanks 58)) refl .1 us 48 (41 ∷ blanks 58) refl .0 in
@@ -86,7 +85,7 @@ leads-with-zero d =
 
 -- (07) is read, and written as it was
 pub leads-with-zero-again : ReadWritesBack leadsWithZero → ⊥
-unfolding computed readingIn writingIn verdict scanned listIn extent load read listFrom zeroed
+unfolding computed readingIn writingIn listIn extent load read listFrom zeroed
 leads-with-zero-again d =
     let t : List ℕ = 40 ∷ 48 ∷ 55 ∷ 41 ∷ [] in
     let xs = t ++ blanks 68 in
@@ -99,7 +98,7 @@ ready ts e s n = record { table = tells-table Four ts .1 e; work = omega arith; 
 
 -- (()) is written as (0), and that is read
 pub writes-null-as-zero : WrittenReadsBack Four writesNullAsZero → ⊥
-unfolding computed readingIn writingIn verdict scanned listIn extent order load read listFrom nullAsZero ListAt
+unfolding computed readingIn writingIn listIn extent order load read listFrom nullAsZero ListAt
 writes-null-as-zero d =
     let t = held 1 0 in
     let small : Words t = λ i. omega (arith, tally-ge (λ x. x) t i 0 refl) in

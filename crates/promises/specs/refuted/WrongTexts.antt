@@ -91,7 +91,7 @@ abbrev pub takesLate : Engine
 takesLate = placing (λ p h l. let z = loadLate l (p .free) (p .cells) in record { free = z .free; holders = set (p .holders) h (z .head); cells = z .cells })
 
 -- ours with another further call
-abbrev handing : (List ℕ → ℕ) → Engine
+abbrev pub handing : (List ℕ → ℕ) → Engine
 handing f = record { setUp = ours Four .setUp; run = ours Four .run; read = ours Four .read; write = ours Four .write; check = ours Four .check; rest = f }
 
 -- reads into a holder that has a list

@@ -3,9 +3,9 @@ use mathlib.Core.Path.{_≡_, refl, sym, ap, _∙_, subst}
 use mathlib.Core.List.{List}
 use Prim.Native.Nat.{ℕ}
 use native.Mathlib.Decide.{ℕ-discrete}
-use lib.ListN.{take}
+use lib.ListN.{take, drop}
 use Rattle.answers.specs.Answers.{DONE}
-use Rattle.text.specs.Text.{Answer, verdict, restAt}
+use Rattle.text.specs.Text.{Answer, others, verdict, restAt}
 use Rattle.text.specs.Marks.{listIn}
 use Rattle.pool.specs.Pool.{Sound}
 use Rattle.calls.specs.Entry.{shown}
@@ -53,14 +53,21 @@ module _ (form : Form) (E : Engine) (K : Keeps form E) where
       go (no d) = K .first .refused-check xs (λ z. d (sym number ∙ z)) ∙ sym (ours-keeps form .first .refused-check xs d)
 
   pub same-rest : (xs : List ℕ) → E .rest xs ≡ restAt xs
-  same-rest xs = go (ℕ-discrete (verdict xs .no) DONE)
+  same-rest xs = go (ℕ-discrete (verdict xs .no) DONE) (ℕ-discrete (others (drop (verdict xs .taken) xs)) 0)
     where
       number : E .check xs .no ≡ verdict xs .no
       number = ap (λ (r : Answer). r .no) (same-check xs)
 
-      go : Dec (verdict xs .no ≡ DONE) → E .rest xs ≡ restAt xs
-      go (yes e) = K .second .rest-gives xs .0 (number ∙ e) ∙ ap (λ (r : Answer). r .taken) (same-check xs) ∙ sym (ours-keeps form .second .rest-gives xs .0 e)
-      go (no d) = K .second .rest-gives xs .1 (λ z. d (sym number ∙ z)) ∙ sym (ours-keeps form .second .rest-gives xs .1 d)
+      taken : E .check xs .taken ≡ verdict xs .taken
+      taken = ap (λ (r : Answer). r .taken) (same-check xs)
+
+      left : others (drop (E .check xs .taken) xs) ≡ others (drop (verdict xs .taken) xs)
+      left = ap (λ (n : ℕ). others (drop n xs)) taken
+
+      go : Dec (verdict xs .no ≡ DONE) → Dec (others (drop (verdict xs .taken) xs) ≡ 0) → E .rest xs ≡ restAt xs
+      go (no d) q = K .second .rest-gives xs .2 (λ z. d (sym number ∙ z)) ∙ sym (ours-keeps form .second .rest-gives xs .2 d)
+      go (yes e) (yes b) = K .second .rest-gives xs .1 (number ∙ e) (left ∙ b) ∙ sym (ours-keeps form .second .rest-gives xs .1 e b)
+      go (yes e) (no m) = K .second .rest-gives xs .0 (number ∙ e) (λ b. m (sym left ∙ b)) ∙ taken ∙ sym (ours-keeps form .second .rest-gives xs .0 e m)
 
   pub same-read : (ts ws : List ℕ) (h : ℕ) (xs : List ℕ) → E .read ts ws h xs ≡ readingIn form ts ws h xs
   same-read ts ws h xs = by-parts-read form ts ws h xs (go (ℕ-discrete (readingIn form ts ws h xs .answer) DONE))

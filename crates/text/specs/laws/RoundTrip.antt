@@ -2,6 +2,7 @@
 -- One induction on the list, from any place where its text may stand.
 use Prim.Native.Nat.{ℕ, zero, suc, _+_, _-_, _*_, _/_, _%_, _<_, _≤_}
 use mathlib.Core.Path.{_≡_, refl, sym, ap, _∙_}
+use mathlib.Core.Logic.{_≢_}
 use mathlib.Core.List.{List, [], _∷_, _++_, append-nil}
 use mathlib.Core.Bool.{true, false, cond}
 use native.Mathlib.Omega.{arith}
@@ -10,9 +11,10 @@ use lib.Dec.{ltb}
 use borrow.Author.Tests.{lt-ltb, le-ltb, eq-eqb, ne-eqb, ltb-true}
 use Rattle.lists.specs.Lst.{Lst, nil, atom, list, order, Atoms}
 use Rattle.text.specs.Limits.{levels, recordBytes, textMost, digitsMost, atomsEnd}
-use Rattle.text.specs.Text.{Scan, place, begin, afterOpen, afterComma, inAtom, afterElement, afterAll, mayOpen, mayShut, mayPart, mayBegin, mark, State, at, taken, next, run, settle, digitAt, moreAt, answer, scanned, verdict, done}
+use Rattle.text.specs.Text.{Scan, place, begin, afterOpen, afterComma, inAtom, afterElement, afterAll, mayOpen, mayShut, mayPart, mayBegin, mark, State, at, taken, next, run, settle, digitAt, moreAt, answer, others, scanned, verdict, done}
 use Rattle.text.specs.ListText.{octalF, octal, items, textOf, fill, written}
 use Rattle.text.specs.Marks.{Mark, opened, shut, value, marksOf, pending, met, trace, pushes, topOf, listIn}
+use Rattle.text.specs.laws.Blanks.{starts-other}
 use Rattle.text.specs.laws.SizeLaws.{no-fault, right-size}
 use Rattle.text.specs.laws.TextLaws.{by-case, run-append, digit-step}
 use Rattle.text.specs.laws.MarkLaws.{built, trace-append, trace-blanks, digit-met}
@@ -189,10 +191,11 @@ blanks (suc k) m e h =
     ap (λ (st : State). run (next st 32) (replicate k 32)) (inside m (λ q. omega arith))
     ∙ blanks k (m + 1) (omega arith) (omega arith) ∙ ap taken z
 
-items-pos : (l : Lst) → 1 ≤ length (textOf l)
-items-pos nil = omega arith
-items-pos (atom v l) = omega arith
-items-pos (list m l) = omega arith
+-- the text of a list starts with "("
+starts-open : (l : Lst) (t : List ℕ) → others (textOf l ++ t) ≢ 0
+starts-open nil t = starts-other 40 _ (λ z. omega arith)
+starts-open (atom v l) t = starts-other 40 _ (λ z. omega arith)
+starts-open (list m l) t = starts-other 40 _ (λ z. omega arith)
 
 pub write-read : (l : Lst) → order l ≤ levels → Atoms l → length (written l) ≤ textMost
     → (verdict (written l) ≡ done (length (written l))) × (listIn (written l) ≡ l)
@@ -211,7 +214,7 @@ write-read l h a room =
     = trace-append (textOf l) (fill m) (at begin 0) ∙ ap (λ (es : List Mark). es ++ trace (run (at begin 0) (textOf l)) (fill m)) (w .1)
     ∙ ap (λ (es : List Mark). marksOf true l ++ es) (trace-blanks k (run (at begin 0) (textOf l))) ∙ append-nil (marksOf true l) in
     let e1 : length (written l) % recordBytes ≡ 0 = ap (λ (j : ℕ). j % recordBytes) size ∙ even in
-    let e3 : length (written l) ≡ 0 → ⊥ = λ q. omega (arith, items-pos l) in (
-      right-size (written l) (no-fault (written l) e1 room (ne-eqb (length (written l)) 0 e3)) ∙ ap answer takes ∙ ap done (sym size),
+    let some = ne-eqb (others (written l)) 0 (starts-open l (fill m)) in (
+      right-size (written l) (no-fault (written l) e1 room some) ∙ ap answer takes ∙ ap done (sym size),
       ap (λ (es : List Mark). topOf (pushes es [])) marks ∙ ap topOf (built l),
     )

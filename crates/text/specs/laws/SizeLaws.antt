@@ -4,14 +4,16 @@ use mathlib.Core.Logic.{_≢_}
 use mathlib.Core.Bool.{Bool, true, false, cond, not, _||_, true≢false}
 use mathlib.Core.List.{List}
 use Prim.Native.Nat.{ℕ, _%_, _≤_, _<_}
+use native.Mathlib.Decide.{ℕ-discrete}
 use native.Mathlib.Omega.{arith}
 use lib.Dec.{eqb, ltb}
 use lib.ListN.{length}
-use borrow.Author.Tests.{ltb-false, le-ltb, eqb-true, eqb-false, eq-eqb, ne-eqb}
+use borrow.Author.Tests.{ltb-false, lt-ltb, le-ltb, eqb-true, eqb-false, eq-eqb, ne-eqb}
 use Rattle.answers.specs.Answers.{DONE, TEXT-SIZE, END}
 use Rattle.answers.specs.laws.Unless.{goes-on, refuses}
 use Rattle.text.specs.Limits.{recordBytes, textMost}
-use Rattle.text.specs.Text.{refusal, scanned, badText, atEnd, sizeFault, verdict}
+use Rattle.text.specs.Text.{refusal, scanned, badText, others, atEnd, sizeFault, verdict}
+use Rattle.text.specs.laws.Blanks.{others-out}
 
 -- whole records, at least one, and not too many
 pub record Sized (s : List ℕ) : Type 0 where
@@ -39,14 +41,35 @@ not-bad s e = go (eqb (length s % recordBytes) 0) (ltb textMost (length s)) refl
     go true true ea eb q = absurd (true≢false q)
     go false b ea eb q = absurd (true≢false q)
 
+not-empty : (s : List ℕ) → others s ≢ 0 → 0 < length s
+not-empty s n = go (ℕ-discrete (length s) 0)
+  where
+    go : Dec (length s ≡ 0) → 0 < length s
+    go (yes e) = absurd (n (others-out s 0 (omega arith)))
+    go (no d) = omega arith
+
 module _ (s : List ℕ) where
   pub its-size : sizeFault s ≡ DONE → Sized s
   its-size = size-ways s (λ n. n ≡ DONE → Sized s) (λ p e. absurd (omega arith)) (λ p q e. absurd (omega arith))
-      (λ p q e. let some : length s ≢ 0 = eqb-false (length s) 0 q in let n = not-bad s p in record { some = omega arith; small = n .1; whole = n .0 })
+      (λ p q e. let n = not-bad s p in record { some = not-empty s (eqb-false (others s) 0 q); small = n .1; whole = n .0 })
 
-  pub no-fault : length s % recordBytes ≡ 0 → length s ≤ textMost → atEnd s ≡ false → sizeFault s ≡ DONE
+  -- the fault by each test
+  pub not-whole : length s % recordBytes ≢ 0 → sizeFault s ≡ TEXT-SIZE
   unfolding sizeFault
-  no-fault w l e = rw (eq-eqb (length s % recordBytes) 0 w, le-ltb textMost (length s) l, e) refl
+  not-whole n = rw (ne-eqb (length s % recordBytes) 0 n) refl
+
+  pub too-long : length s % recordBytes ≡ 0 → textMost < length s → sizeFault s ≡ TEXT-SIZE
+  unfolding sizeFault
+  too-long w l = rw (eq-eqb (length s % recordBytes) 0 w, lt-ltb textMost (length s) l) refl
+
+  module _ (w : length s % recordBytes ≡ 0) (l : length s ≤ textMost) where
+    pub blank : atEnd s ≡ true → sizeFault s ≡ END
+    unfolding sizeFault
+    blank e = rw (eq-eqb (length s % recordBytes) 0 w, le-ltb textMost (length s) l, e) refl
+
+    pub no-fault : atEnd s ≡ false → sizeFault s ≡ DONE
+    unfolding sizeFault
+    no-fault e = rw (eq-eqb (length s % recordBytes) 0 w, le-ltb textMost (length s) l, e) refl
 
   pub right-size : sizeFault s ≡ DONE → verdict s ≡ scanned s
   unfolding verdict
