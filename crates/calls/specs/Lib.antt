@@ -7,4 +7,5 @@ pub mod Contracts
 pub mod Chars
 pub mod SameForm
 pub mod Cases
+pub mod PaddedCases
 pub mod laws

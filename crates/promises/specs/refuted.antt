@@ -1,5 +1,6 @@
 pub mod WrongEngines
 pub mod WrongTexts
+pub mod WrongEnds
 pub mod WrongCells
 pub mod Computed
 pub mod Refuted
@@ -9,3 +10,4 @@ pub mod RunsRefuted
 pub mod TextRefuted
 pub mod CellsRefuted
 pub mod AnswersRefuted
+pub mod EndsRefuted
