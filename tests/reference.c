@@ -373,9 +373,16 @@ static uint32_t parse(const uint8_t *text, size_t bytes, int *first, uint32_t *t
     return 0;
 }
 
-static uint32_t text_size_fault(size_t bytes) {
+static int only_blanks(const uint8_t *text, size_t bytes) {
+    for (size_t i = 0; i < bytes; i++)
+        if (text[i] != ' ') return 0;
+    return 1;
+}
+
+/* What refuses a text before its list is looked for: its size, or that it has no byte but blanks, or none at all. */
+static uint32_t early_fault(const uint8_t *text, size_t bytes) {
     if (bytes % 72 != 0 || bytes > 65520) return 13;
-    if (bytes == 0) return 14;
+    if (bytes == 0 || only_blanks(text, bytes)) return 14;
     return 0;
 }
 
@@ -488,12 +495,13 @@ tab_outcome ref_read(uint32_t *table, size_t table_words, uint32_t *work, size_t
     if (!table_fits(table, table_words)) return outcome(1, 0);
     if (work_words < 2 * (size_t)table[0]) return outcome(2, 0);
     if (holder > 63) return outcome(7, 0);
-    if (text_size_fault(bytes)) return outcome(text_size_fault(bytes), 0);
+    uint32_t fault = early_fault(text, bytes);
+    if (fault) return outcome(fault, 0);
     unpack(table);
     clear_work(work);
     if (!is_sound()) return outcome(5, 0);
     if (p.holder[holder] != 0) return outcome(10, 0);
-    uint32_t fault = parse(text, bytes, &first, &taken);
+    fault = parse(text, bytes, &first, &taken);
     if (fault) return outcome(fault, 0);
     if (extent(first) > free_cells()) return outcome(12, 0);
     p.holder[holder] = build(first);
@@ -523,14 +531,15 @@ tab_outcome ref_write(const uint32_t *table, size_t table_words, uint32_t *work,
 tab_outcome ref_check(const uint8_t *text, size_t bytes) {
     int first;
     uint32_t taken;
-    if (text_size_fault(bytes)) return outcome(text_size_fault(bytes), 0);
-    uint32_t fault = parse(text, bytes, &first, &taken);
+    uint32_t fault = early_fault(text, bytes);
+    if (fault == 0) fault = parse(text, bytes, &first, &taken);
     if (fault) return outcome(fault, 0);
     return outcome(0, taken);
 }
 
-/* The rest begins behind the records of the first list; without one, at the end. */
+/* The rest begins behind the records of the first list; at the end where there is no list, or only blanks are left. */
 size_t ref_rest(const uint8_t *text, size_t bytes) {
     tab_outcome first = ref_check(text, bytes);
-    return first.answer == 0 ? first.count : bytes;
+    if (first.answer != 0) return bytes;
+    return only_blanks(text + first.count, bytes - first.count) ? bytes : first.count;
 }

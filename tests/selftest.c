@@ -211,6 +211,127 @@ static void text_cases(void) {
     is("no rest of nothing", (long)ref_rest(records, 0), 0);
 }
 
+/* ---- Blank records */
+
+/* Blank records, a text in front of them and one at some place among them. */
+static void blank_records(const char *first, size_t at, const char *then) {
+    memset(records, ' ', sizeof records);
+    memcpy(records + at, then, strlen(then));
+    memcpy(records, first, strlen(first));
+}
+
+/* The check's answer and the bytes it takes, and where the rest begins. */
+static void checks_and_rests(const char *what, size_t bytes, uint32_t answer, uint32_t taken, size_t rest) {
+    tab_outcome o = ref_check(records, bytes);
+    is(what, o.answer, answer);
+    is(what, o.count, taken);
+    is(what, (long)ref_rest(records, bytes), (long)rest);
+}
+
+static void blank_texts(void) {
+    blank_records("", 0, "");
+    for (size_t k = 1; k <= 910; k++) checks_and_rests("blank records alone", 72 * k, 14, 0, 72 * k);
+    checks_and_rests("911 blank records", 65592, 13, 0, 65592);
+    checks_and_rests("71 blanks", 71, 13, 0, 71);
+    checks_and_rests("73 blanks", 73, 13, 0, 73);
+    for (int bit = 0; bit < 8; bit++) { /* every byte that is a blank but for one bit, in every place of two words */
+        for (size_t at = 0; at < 16; at++) {
+            blank_records("", 65504 + at, "");
+            records[65504 + at] = (uint8_t)(' ' ^ 1 << bit);
+            checks_and_rests("910 records, blank but for a byte near the end", 65520, 15, 0, 65520);
+        }
+    }
+    blank_records("", 65519, "(");
+    checks_and_rests("910 records, blank but for the last byte", 65520, 15, 0, 65520);
+    checks_and_rests("the 909 blank records before them", 65448, 14, 0, 65448);
+    blank_records("", 1, "(1)");
+    checks_and_rests("a blank and a list in one record", 72, 15, 0, 72);
+    blank_records("", 72, "(1)");
+    checks_and_rests("a blank record before a list", 144, 15, 0, 144);
+    checks_and_rests("a blank record before a list that is not lent", 72, 14, 0, 72);
+    blank_records("\t", 72, "");
+    checks_and_rests("a tab is no blank", 72, 15, 0, 72);
+}
+
+static void blank_rests(void) {
+    blank_records("(1)", 0, "");
+    checks_and_rests("a list and three blank records", 288, 0, 72, 288);
+    checks_and_rests("a list and 909 blank records", 65520, 0, 72, 65520);
+    blank_records("(1)", 65519, "x");
+    checks_and_rests("a list and 909 records, blank but for the last byte", 65520, 0, 72, 72);
+    blank_records("(1)", 215, "x");
+    checks_and_rests("a list and two records, blank but for the last byte", 216, 0, 72, 72);
+    blank_records("(1)", 72, "x");
+    checks_and_rests("a list and two records, blank but for the first byte", 216, 0, 72, 72);
+    blank_records("(1)", 144, "(2)");
+    checks_and_rests("a list, a blank record, a list", 216, 0, 72, 72);
+    is("the check of that rest", ref_check(records + 72, 144).answer, 15);
+    is("no rest of that rest", (long)ref_rest(records + 72, 144), 144);
+    blank_records("(1)", 72, "(2)");
+    checks_and_rests("two lists and a blank record", 216, 0, 72, 72);
+    checks_and_rests("the first of them alone", 72, 0, 72, 72);
+    is("the rest behind the second", (long)ref_rest(records + 72, 144), 144);
+}
+
+/* Reads into a pool of 10 cells and gives the answer, which must leave table and work space as they were. */
+static uint32_t reads_untouched(size_t table_words, size_t work_words, uint32_t holder, size_t bytes) {
+    uint32_t kept[106], lent[21];
+    memcpy(kept, t, sizeof kept);
+    memset(lent, 9, sizeof lent);
+    tab_outcome o = ref_read(t, table_words, lent, work_words, holder, records, bytes);
+    is("nothing is taken", o.count, 0);
+    is("the table is untouched", memcmp(kept, t, sizeof kept), 0);
+    for (int i = 0; i < 21; i++) is("the work space is untouched", lent[i], 0x09090909);
+    return o.answer;
+}
+
+/* Blanks alone are 14 behind 1, 2, 7 and 13, and before 5 and 10. */
+static void blank_reads(void) {
+    set_up(10);
+    is("a list", reads("(1,2)", 0), 0);
+    blank_records("", 0, "");
+    is("blanks", reads_untouched(106, 20, 1, 72), 14);
+    is("as many blanks as there can be", reads_untouched(106, 21, 63, 65520), 14);
+    is("blanks, a table of a wrong length", reads_untouched(105, 20, 1, 72), 1);
+    is("blanks, no table", reads_untouched(0, 0, 64, 72), 1);
+    is("blanks, short work space", reads_untouched(106, 19, 1, 72), 2);
+    is("blanks, a bad holder and short work space", reads_untouched(106, 19, 64, 72), 2);
+    is("blanks, a bad holder", reads_untouched(106, 20, 64, 72), 7);
+    is("71 blanks, a bad holder", reads_untouched(106, 20, 64, 71), 7);
+    is("71 blanks", reads_untouched(106, 20, 1, 71), 13);
+    is("911 blank records", reads_untouched(106, 20, 1, 65592), 13);
+    is("blanks into an occupied holder", reads_untouched(106, 20, 0, 72), 14);
+    COUNT(t, 1) = 7;
+    is("blanks on an unsound table", reads_untouched(106, 20, 1, 72), 14);
+    is("blanks into an occupied holder of it", reads_untouched(106, 20, 0, 72), 14);
+    is("no text on an unsound table", reads_untouched(106, 20, 1, 0), 14);
+    blank_records("", 71, "x");
+    is("blanks and a letter on an unsound table", ref_read(t, 106, work, 20, 1, records, 72).answer, 5);
+    COUNT(t, 1) = 1;
+    is("blanks and a letter into an occupied holder", ref_read(t, 106, work, 20, 0, records, 72).answer, 10);
+    is("blanks and a letter", ref_read(t, 106, work, 20, 1, records, 72).answer, 15);
+    is("a blank before a list", reads(" (1)", 1), 15);
+    is("the list is still there", operate(TAB_LENGTH, 0, 0, 0), 0);
+    is_text("the list is still there", written(0), "(1,2)");
+}
+
+/* A file of three lists, filled up with blank records: each read goes on behind the one before, until END. */
+static void padded_file(void) {
+    size_t at = 0;
+    uint32_t lists = 0, rests = 0;
+    tab_outcome o;
+    blank_records("(1)", 72, "(2,3)");
+    memcpy(records + 144, "((4))", 5);
+    set_up(10);
+    for (; (o = ref_read(t, length(), work, 8000, lists, records + at, 720 - at)).answer == 0; at += o.count) lists++;
+    is("the end of the file", o.answer, 14);
+    is("where the last list ends", (long)at, 216);
+    is("lists of the file", lists, 3);
+    is_text("the last list", written(2), "((4))");
+    for (at = 0; at < 720; at += ref_rest(records + at, 720 - at)) rests++;
+    is("parts of the file", rests, 3);
+}
+
 static void pool_cases(void) {
     set_up(4);
     is("((3),1)", reads("((3),1)", 0), 0);
@@ -548,6 +669,10 @@ int main(void) {
     the_header();
     the_session();
     text_cases();
+    blank_texts();
+    blank_rests();
+    blank_reads();
+    padded_file();
     pool_cases();
     traps();
     meaning();
