@@ -6,8 +6,9 @@
  *   diff SEED CASE        one case alone, each call printed
  *   diff SEED FROM TO     the cases FROM to TO - 1
  *
- * The first cases go through all small words of a pool of two cells. Each other case is a story: a table, and some
- * calls on it one after the other, each disturbed now and then. Status 0: no difference, and every answer came up.
+ * The first cases go through all small words of a pool of two cells, the next through all numbers of records with
+ * blanks. Each other case is a story: a table, and some calls on it one after the other, each disturbed now and then.
+ * Status 0: no difference, and every answer came up.
  */
 #include <stdio.h>
 #include <stdlib.h>
@@ -20,7 +21,8 @@
 #include "tables.h"
 #include "texts.h"
 
-enum { SWEEP_TABLES = 589824, SWEEP_STEP = 256, SWEEP_CASES = SWEEP_TABLES / SWEEP_STEP, STORIES = 90000 };
+enum { SWEEP_TABLES = 589824, SWEEP_STEP = 256, SWEEP_CASES = SWEEP_TABLES / SWEEP_STEP };
+enum { MOST_RECORDS = 911, FIRST_STORY = SWEEP_CASES + MOST_RECORDS, STORIES = 90000 }; /* one record over what is legal */
 enum { MOST_DIFFERENT = 5, SECONDS = 60 }; /* the test ends after so many differences, or so long in one case */
 
 /* ---- A story: n cells, the table as it is now (sound, unless it began as noise), and a few holders that are used */
@@ -242,6 +244,21 @@ static void sweep(uint32_t from) {
     }
 }
 
+/* ---- Blank records: so many of them in all ways, checked, and read on a small table */
+
+static void blank_records(uint32_t records) {
+    static text x;
+    n = 12;
+    for (int kind = 0; kind < PADDED && different == 0; kind++) {
+        make_padded(&x, records, (enum padded)kind);
+        memcpy(in.own, x.byte, x.bytes);
+        call_check(x.bytes);
+        call_rest(x.bytes);
+        ref_set_up(own(&table), table_length(), n);
+        call_read(table_length(), 2 * n, below(64), x.bytes);
+    }
+}
+
 /* ---- The whole */
 
 static void run_case(unsigned long long number) {
@@ -250,11 +267,12 @@ static void run_case(unsigned long long number) {
     alarm(SECONDS);
     start_random(seed, number);
     if (number < SWEEP_CASES) sweep((uint32_t)number * SWEEP_STEP);
+    else if (number < FIRST_STORY) blank_records((uint32_t)number - SWEEP_CASES + 1);
     else story();
 }
 
 int main(int argc, char **argv) {
-    unsigned long long from = 0, to = SWEEP_CASES + STORIES;
+    unsigned long long from = 0, to = FIRST_STORY + STORIES;
     if (argc > 1) seed = strtoull(argv[1], NULL, 10);
     if (argc > 2) from = strtoull(argv[2], NULL, 10), to = from + 1, loud = argc == 3;
     if (argc > 3) to = strtoull(argv[3], NULL, 10);

@@ -148,10 +148,55 @@ static void put_large(void) {
     }
 }
 
-void make_text(text *x, int large) {
+/* A byte that is no blank; often it is one but for a bit. */
+static uint8_t no_blank(void) {
+    int ch = chance(60) ? ' ' ^ 1 << below(8) : odd_character();
+    return ch == ' ' ? '(' : (uint8_t)ch;
+}
+
+/* The first byte from `from` on, the last before `end`, or any between. */
+static size_t some_place(size_t from, size_t end) {
+    switch (below(3)) {
+    case 0: return from;
+    case 1: return end - 1;
+    default: return from_to((uint32_t)from, (uint32_t)end - 1);
+    }
+}
+
+static void fill_record(void) {
+    while (to->bytes % 72 != 0) put(' ');
+}
+
+static void start_text(text *x) {
     to = x;
     x->bytes = 0;
     x->extent = 0;
+}
+
+void make_padded(text *x, uint32_t records, enum padded kind) {
+    size_t list = 0, end = 72 * (size_t)records;
+    start_text(x);
+    if (kind == LIST_FIRST || kind == LIST_AND_MORE) {
+        put_list(below(12), 30);
+        fill_record();
+        list = x->bytes;
+    }
+    if (kind == LIST_LAST) end -= 72;
+    if (end > list) {
+        memset(x->byte + list, ' ', end - list);
+        x->bytes = end;
+    }
+    if (kind == BUT_ONE) x->byte[some_place(0, end)] = no_blank();
+    if (kind == LIST_AND_MORE && end > list) x->byte[some_place(list, end)] = no_blank();
+    if (kind == LIST_LAST) {
+        put_list(below(12), 30);
+        fill_record();
+    }
+}
+
+/* A list in some shape, and records after it; then some damage. */
+static void make_list(text *x, int large) {
+    start_text(x);
     uint32_t kind = below(100), lists = from_to(5, 74), records = from_to(1, 3);
     if (large) put_large();
     else if (kind < 70) put_list(chance(85) ? below(12) : below(60), lists);
@@ -162,7 +207,7 @@ void make_text(text *x, int large) {
     else if (kind < 98) fill_random(x->byte, x->bytes = 72);
     else if (kind < 99) put(' ');
     size_t used = x->bytes;
-    while (x->bytes % 72 != 0) put(' ');
+    fill_record();
     if (chance(20)) { /* records after the list */
         size_t end = x->bytes + 72 * (1 + below(2));
         int noise = chance(50);
@@ -170,6 +215,21 @@ void make_text(text *x, int large) {
     }
     if (chance(40)) damage_text(x, used);
     if (chance(8)) damage_text(x, used);
+}
+
+/* Few records most often, as many as a text can have now and then. */
+static uint32_t some_records(void) {
+    if (chance(95)) return from_to(1, 5);
+    return chance(30) ? from_to(908, 912) : from_to(6, 910);
+}
+
+void make_text(text *x, int large) {
+    if (!large && chance(8)) {
+        uint32_t records = some_records();
+        make_padded(x, records, (enum padded)below(PADDED));
+    } else {
+        make_list(x, large);
+    }
     if (chance(4) && x->bytes > 72) x->bytes -= 72;
     if (chance(5)) {
         switch (below(4)) {

@@ -16,4 +16,11 @@ typedef struct {
 /* Makes a text. Most are one to three records; `large` ones may have as many bytes as a text can, or a few more. */
 void make_text(text *x, int large);
 
+/* What stands among blank records: nothing; one byte; a list in front; a list in front and something behind blanks; a
+   list behind them. */
+enum padded { BLANK, BUT_ONE, LIST_FIRST, LIST_AND_MORE, LIST_LAST, PADDED };
+
+/* Makes a text of so many records, 1 to 915, or a few more where its list is long. */
+void make_padded(text *x, uint32_t records, enum padded kind);
+
 #endif
