@@ -204,6 +204,15 @@ static void fill_read(size_t from, size_t text, size_t bytes) {
         if (input[i] == '\n') input[i] = ' ';
 }
 
+/* A text of blanks: one, any number that the line has room for, or the edges of line and record; at times a list last. */
+static void put_blanks(size_t from, size_t text) {
+    static const uint32_t edges[] = {71, 72, 73, 143, 144, 145};
+    if (chance(40)) put(' ');
+    else if (chance(50)) put_some(' ', edges[below(6)]);
+    else put_some(' ', from_to(2, 201 - (uint32_t)(text - from)));
+    if (chance(20)) put_list(5);
+}
+
 static void put_read(size_t from) {
     static const uint32_t edges[] = {198, 199, 200, 200, 200, 201, 201, 202, 260};
     put_text("READ");
@@ -226,7 +235,8 @@ static void put_read(size_t from) {
     } else if (kind < 97) {
         put_list(1);
         fill_read(from, text, chance(70) ? edges[below(9)] : (text - from) + from_to(60, 150));
-    } else put_text(kind == 97 ? "" : kind == 98 ? " " : "x");
+    } else if (kind == 97) put_text(chance(50) ? "" : "x");
+    else put_blanks(from, text);
 }
 
 /* A line as it should be, but for what put_blank and put_read do. */
