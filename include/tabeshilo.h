@@ -77,6 +77,10 @@
  * ")", where they fill its record; the records behind that one may hold anything. Text has at most TAB_TEXT bytes and
  * lists at most TAB_LEVELS levels, the outermost counted.
  *
+ * A text of 0 bytes, or of blanks alone, is TAB_END. So a file may be filled up with blank records: a loop that goes on
+ * by each read's count stops there (examples/padded.c). A blank first byte with anything but blanks behind it, in its
+ * record or in a later one, is TAB_NOT_A_LIST.
+ *
  * Text does not keep sharing: a list that comes four times is written four times, and read back it takes its cells four
  * times. The song of examples/chorus.session has 14 cells, its chorus of 3 once among them; its text of 64 characters,
  * read into a fresh pool, takes 23. To keep the sharing, keep the table's words.
@@ -102,7 +106,7 @@ extern "C" {
 #endif
 
 /* The version of this header, major * 10000 + minor * 100 + patch; tab_version() tells that of the library. */
-#define TAB_VERSION 10000
+#define TAB_VERSION 10100
 
 /* What the library assumes of the machine that it is for. Where one of these fails, nothing here compiles. */
 #if defined(__BYTE_ORDER__) && defined(__ORDER_LITTLE_ENDIAN__) && __BYTE_ORDER__ != __ORDER_LITTLE_ENDIAN__
@@ -166,7 +170,7 @@ enum {
                              CONC: the same, when b is not null */
     TAB_NO_ROOM = 12,     /* too few free cells: PFA and PFL need 1, CINV the length of a, reading the list's extent */
     TAB_TEXT_SIZE = 13,   /* the text's length is over 65,520 bytes or no multiple of 72 */
-    TAB_END = 14,         /* the text has 0 bytes */
+    TAB_END = 14,         /* the text has 0 bytes, or is whole records of blanks and nothing else */
     TAB_NOT_A_LIST = 15,  /* a byte that may not stand where it is, or a text that ends before its list does */
     TAB_ATOM = 16,        /* an atom that goes on to a twelfth digit, or whose eleventh takes it past 2^32 - 1 */
     TAB_DEEP = 17,        /* a "(" of level 201 where a "(" may stand */
@@ -262,9 +266,11 @@ tab_outcome tab_run(uint32_t *table, size_t table_words, uint32_t *work, size_t 
  * TAB_OCCUPIED, the earliest fault in the text (TAB_NOT_A_LIST, TAB_ATOM or TAB_DEEP), TAB_NO_ROOM, TAB_DONE. After
  * any but TAB_DONE the table is unchanged.
  *
- * count: after TAB_DONE the bytes taken, a multiple of 72; the next list, if any, starts at text + count.
+ * count: after TAB_DONE the bytes taken, a multiple of 72; the next list, if any, starts at text + count, and has the
+ * bytes that are left. Where no byte is left, or blanks alone, the call for it answers TAB_END.
  *
- * Cost: the table once, the list's text twice. 65,520 bytes take 63 to 121 microseconds. Stack: 976 bytes.
+ * Cost: the table once, the list's text twice. 65,520 bytes take 63 to 121 microseconds. A text that starts
+ * with a blank is looked through for another byte; one that starts with "(" is not. Stack: 976 bytes.
  */
 tab_outcome tab_read(uint32_t *table, size_t table_words, uint32_t *work, size_t work_words, uint32_t holder,
                      const uint8_t *text, size_t bytes);
@@ -296,7 +302,8 @@ tab_outcome tab_write(const uint32_t *table, size_t table_words, uint32_t *work,
  *
  * count: after TAB_DONE the bytes taken, as tab_read would take them.
  *
- * Cost: the list's text once. 65,520 bytes take 27 to 109 microseconds. Stack: 112 bytes.
+ * Cost: the list's text once. 65,520 bytes take 27 to 109 microseconds. A text that starts with a blank
+ * costs its blanks up to the first other byte. Stack: 112 bytes.
  */
 tab_outcome tab_check(const uint8_t *text, size_t bytes);
 
@@ -304,10 +311,11 @@ tab_outcome tab_check(const uint8_t *text, size_t bytes);
  * Tells where in a text the records after its first list begin, and changes nothing: the next list, if any, starts at
  * text + tab_rest(text, bytes) and has the bytes that are left.
  *
- * Returns the bytes that tab_check counts, where it answers TAB_DONE. Where it refuses there is no rest, and bytes is
- * returned: nothing is left there.
+ * Returns the bytes that tab_check counts, where it answers TAB_DONE and a byte behind them is no blank; blank records
+ * in front of that byte belong to the rest. Otherwise there is no rest, and bytes is returned: where only blanks are
+ * left behind the list, and where tab_check refuses.
  *
- * Cost and stack: as tab_check.
+ * Cost: as tab_check, and the blanks behind the list's records up to the first other byte. Stack: as tab_check.
  */
 size_t tab_rest(const uint8_t *text, size_t bytes);
 
