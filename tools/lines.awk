@@ -38,7 +38,8 @@ function look(   i, c, level, open, before, size) {
         if (c == "(" || c ~ /[0-7]/) cells++
         before = c ~ /[0-7)]/ ? ")" : c
     }
-    if (level > 0 || size == 0) fault("15 NOT A LIST: it ends", size + 1)
+    if (size == 0) fault("14 END", 1)
+    if (level > 0) fault("15 NOT A LIST: it ends", size + 1)
     cells-- # the outermost "(" takes none
 }
 
