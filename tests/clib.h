@@ -11,8 +11,9 @@ typedef __UINTPTR_TYPE__ uintptr_t;
 #define offsetof(type, member) __builtin_offsetof(type, member)
 
 int printf(const char *form, ...);
-extern void *stdout;
+extern void *stdin, *stdout;
 int fflush(void *file);
+size_t fread(void *to, size_t bytes, size_t times, void *file);
 size_t fwrite(const void *from, size_t bytes, size_t times, void *file);
 void exit(int status);
 void _exit(int status);
