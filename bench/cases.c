@@ -141,6 +141,18 @@ static void digits(given *g, uint32_t cells) {
     flat_text(g, 32759, 1);
 }
 
+/* 65,520 bytes: blanks alone; one list in the first record, and blank records. */
+static void blanks(given *g, uint32_t cells) {
+    fresh(g, cells);
+    memset(g->text, ' ', TAB_TEXT);
+    g->bytes = TAB_TEXT;
+}
+
+static void list_and_blanks(given *g, uint32_t cells) {
+    fresh(g, cells);
+    flat_text(g, 5, 11);
+}
+
 static void list_of_atoms(given *g, uint32_t cells) {
     most_cells(g, cells);
     read_in(g);
@@ -182,6 +194,8 @@ const bench_case cases[] = {
     {"text check, 65,520 bytes", long_text, 4000, CHECK, 1, TAB_DONE},
     {"text check, 65,520 bytes, one digit", digits, 4000, CHECK, 1, TAB_DONE},
     {"text check, 200 levels", deepest_text, 4000, CHECK, 100, TAB_DONE},
+    {"text check, 65,520 blanks", blanks, 4000, CHECK, 1, TAB_END},
+    {"rest of a list and blanks, 65,520 bytes", list_and_blanks, 4000, REST, 1, TAB_DONE},
     {"read 65,520 bytes, 4,000 atoms", most_cells, 4000, READ, 1, TAB_DONE},
     {"read 65,520 bytes, no room", long_text, 4000, READ, 1, TAB_NO_ROOM},
     {"read 200 levels", deepest_text, 4000, READ, 1, TAB_DONE},
@@ -201,5 +215,7 @@ void make_call(const calls *of, enum call call, const given *g, left *l) {
     case READ: l->outcome = of->read(l->table, words, l->work, WORK, 0, g->text, g->bytes); break;
     case WRITE: l->outcome = of->write(l->table, words, l->work, WORK, 0, l->out, TAB_TEXT); break;
     case CHECK: l->outcome = of->check(g->text, g->bytes); break;
+    case REST: l->outcome = (tab_outcome){TAB_DONE, (uint32_t)of->rest(g->text, g->bytes)}; break;
+    case CALLS: break;
     }
 }

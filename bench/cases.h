@@ -13,9 +13,10 @@ typedef struct {
     tab_outcome (*read)(uint32_t *, size_t, uint32_t *, size_t, uint32_t, const uint8_t *, size_t);
     tab_outcome (*write)(const uint32_t *, size_t, uint32_t *, size_t, uint32_t, uint8_t *, size_t);
     tab_outcome (*check)(const uint8_t *, size_t);
+    size_t (*rest)(const uint8_t *, size_t);
 } calls;
 
-enum call { SET_UP, RUN, READ, WRITE, CHECK };
+enum call { SET_UP, RUN, READ, WRITE, CHECK, REST, CALLS };
 
 /* What a call is lent. The table is as it is before the call. */
 typedef struct {

@@ -12,8 +12,8 @@
 enum { INPUTS = 8, ROUNDS = 10 };
 static const double LEAST = 0.4; /* seconds for a case */
 
-static const calls both[2] = {{tab_set_up, tab_run, tab_read, tab_write, tab_check},
-                             {ref_set_up, ref_run, ref_read, ref_write, ref_check}};
+static const calls both[2] = {{tab_set_up, tab_run, tab_read, tab_write, tab_check, tab_rest},
+                             {ref_set_up, ref_run, ref_read, ref_write, ref_check, ref_rest}};
 static given input[INPUTS];
 static left after[2];
 
@@ -55,15 +55,15 @@ static void best_of(const bench_case *c, double best[2]) {
 }
 
 int main(void) {
-    printf("%-38s %12s %12s %7s\n", "case (nanoseconds a call)", "plain C", "library", "ratio");
+    printf("%-40s %12s %12s %7s\n", "case (nanoseconds a call)", "plain C", "library", "ratio");
     for (int i = 0; i < number_of_cases; i++) {
         double best[2];
         if (!alike(&cases[i])) {
-            printf("%-38s the two DIFFER\n", cases[i].name);
+            printf("%-40s the two DIFFER\n", cases[i].name);
             return 1;
         }
         best_of(&cases[i], best);
-        printf("%-38s %12.0f %12.0f %7.3f\n", cases[i].name, 1e9 * best[1], 1e9 * best[0], best[0] / best[1]);
+        printf("%-40s %12.0f %12.0f %7.3f\n", cases[i].name, 1e9 * best[1], 1e9 * best[0], best[0] / best[1]);
         fflush(stdout);
     }
     return 0;
