@@ -8,6 +8,7 @@ typedef __UINT32_TYPE__ uint32_t;
 typedef __UINT64_TYPE__ uint64_t;
 typedef __UINTPTR_TYPE__ uintptr_t;
 #define NULL ((void *)0)
+#define UINT32_MAX 4294967295u
 #define offsetof(type, member) __builtin_offsetof(type, member)
 
 int printf(const char *form, ...);
