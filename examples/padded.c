@@ -2,9 +2,9 @@
  * padded.c: reads a file of songs from standard input, in records of 72 bytes, the last of them blank. Run it with
  * examples/run.
  *
- * Each song goes to the bank, which is a list of songs in one holder. The answer END says that no song is left, however
- * many blank records there are, none among them: status 0. Any other answer is a fault of the file, and the program says
- * where: status 1.
+ * Each song goes to the bank, which is a list of songs in one holder. The answer END says that no song is left, whether
+ * blank records follow or none do: status 0. Any other answer refuses the next song, and the program says where that
+ * is: status 1.
  */
 #include <stdint.h>
 #include <stdio.h>

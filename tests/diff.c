@@ -22,7 +22,8 @@
 #include "texts.h"
 
 enum { SWEEP_TABLES = 589824, SWEEP_STEP = 256, SWEEP_CASES = SWEEP_TABLES / SWEEP_STEP };
-enum { MOST_RECORDS = 911, FIRST_STORY = SWEEP_CASES + MOST_RECORDS, STORIES = 90000 }; /* one record over what is legal */
+enum { MOST_RECORDS = 911 }; /* one more than a text may have */
+enum { FIRST_STORY = SWEEP_CASES + MOST_RECORDS, STORIES = 90000 };
 enum { MOST_DIFFERENT = 5, SECONDS = 60 }; /* the test ends after so many differences, or so long in one case */
 
 /* ---- A story: n cells, the table as it is now (sound, unless it began as noise), and a few holders that are used */

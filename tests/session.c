@@ -204,7 +204,7 @@ static void fill_read(size_t from, size_t text, size_t bytes) {
         if (input[i] == '\n') input[i] = ' ';
 }
 
-/* A text of blanks: one, any number that the line has room for, or the edges of line and record; at times a list last. */
+/* A text of blanks: one, so many that a record is just full, or up to the line's end and over; at times a list last. */
 static void put_blanks(size_t from, size_t text) {
     static const uint32_t edges[] = {71, 72, 73, 143, 144, 145};
     if (chance(40)) put(' ');
