@@ -248,7 +248,7 @@ enum {
  * count: the operations done. Result words from 2 * count on are unchanged, and so is the script.
  *
  * Cost: the table once, and the operations. 4,096 mixed operations on 4,000 cells take 75 to 110 microseconds, ERASE of
- * 4,000 cells 15 to 17. Stack: 148 bytes.
+ * 4,000 cells 15 to 17. Stack: 192 bytes.
  */
 tab_outcome tab_run(uint32_t *table, size_t table_words, uint32_t *work, size_t work_words, const uint32_t *script,
                     size_t script_words, uint32_t *results, size_t results_words);
@@ -270,7 +270,7 @@ tab_outcome tab_run(uint32_t *table, size_t table_words, uint32_t *work, size_t 
  * bytes that are left. Where no byte is left, or blanks alone, the call for it answers TAB_END.
  *
  * Cost: the table once, the list's text twice. 65,520 bytes take 63 to 121 microseconds. A text that starts
- * with a blank is looked through for another byte; one that starts with "(" is not. Stack: 976 bytes.
+ * with a blank is looked through for another byte; one that starts with "(" is not. Stack: 1,008 bytes.
  */
 tab_outcome tab_read(uint32_t *table, size_t table_words, uint32_t *work, size_t work_words, uint32_t holder,
                      const uint8_t *text, size_t bytes);
@@ -289,7 +289,7 @@ tab_outcome tab_read(uint32_t *table, size_t table_words, uint32_t *work, size_t
  *
  * count: after TAB_DONE the bytes written, a multiple of 72 that is at least 72. Output from there on is unchanged.
  *
- * Cost: the table once, the list twice. 65,520 bytes take 182 to 187 microseconds. Stack: 1,760 bytes.
+ * Cost: the table once, the list twice. 65,520 bytes take 182 to 187 microseconds. Stack: 1,792 bytes.
  */
 tab_outcome tab_write(const uint32_t *table, size_t table_words, uint32_t *work, size_t work_words, uint32_t holder,
                       uint8_t *out, size_t room);
@@ -315,7 +315,7 @@ tab_outcome tab_check(const uint8_t *text, size_t bytes);
  * in front of that byte belong to the rest. Otherwise there is no rest, and bytes is returned: where only blanks are
  * left behind the list, and where tab_check refuses.
  *
- * Cost: as tab_check, and the blanks behind the list's records up to the first other byte. Stack: as tab_check.
+ * Cost: as tab_check, and the blanks behind the list's records up to the first other byte. Stack: 144 bytes.
  */
 size_t tab_rest(const uint8_t *text, size_t bytes);
 

@@ -3,7 +3,8 @@ ghost use mathlib.Core.Path.{_≡_};
 ghost use Prim.Native.Nat.{_+_, _%_, _≤_};
 ghost use lib.ListN.{length, drop};
 ghost use Rattle.text.specs.Limits.{recordBytes, recordsMost, textMost};
-ghost use Rattle.text.specs.Text.{others, atEnd, sizeFault};
+ghost use Rattle.text.specs.Text.{atEnd, sizeFault};
+ghost use Rattle.records.specs.Differing.{Differing};
 use answers::Answer;
 
 // Constants, each tied to the number of the definitions.
@@ -37,22 +38,20 @@ impl Record {
     }
 }
 
-// How many bytes of the record at `from` are no blanks. It does not stop at the first, so that the compiler can look at
-// many at once.
-fn others_in(text: &[u8], from: usize) -> u8
+// 0 exactly if the record at `from` is blank. It goes on behind a byte that is no blank, so that the compiler can look at
+// many bytes at once.
+fn differing(text: &[u8], from: usize) -> u8
     requires { ⌜ from + recordBytes ≤ length (now text) ⌝ }
-    ensures { λ r. ⌜ r + others (drop (from + recordBytes) (now (text .entry))) ≡ others (drop from (now (text .entry))) ⌝ }
+    ensures { λ r. ⌜ Differing (now (text .entry)) from (from + recordBytes) r ⌝ }
 {
     let end = from + Record::BYTES;
-    let mut n: u8 = 0;
+    let mut bits: u8 = 0;
     let mut i = from;
     while i < end {
-        if text[i] != b' ' {
-            n += 1;
-        }
+        bits = bits | (text[i] ^ b' ');
         i += 1;
     }
-    n
+    bits
 }
 
 // Nothing but blanks from `from` on, which begins a record or is the end. A first byte that is no blank costs one look.
@@ -66,7 +65,7 @@ pub fn at_end(text: &[u8], from: usize) -> bool
         if text[i] != b' ' {
             return false;
         }
-        if others_in(text, i) != 0 {
+        if differing(text, i) != 0 {
             return false;
         }
         i += Record::BYTES;

@@ -39,15 +39,15 @@ returns c =
     let other = an-other (turn .before .before .args .text .now) (turn .loop .i) (c .before .before .loop-test .taken) (c .if1 .taken) in
     some-left _ _ (turn .loop .inv .1) (omega (arith, other))
 
-others-in-requires : tie.Need-others-in-requires Inv-loop μ-loop
-others-in-requires c κs =
+differing-requires : tie.Need-differing-requires Inv-loop μ-loop
+differing-requires c κs =
     let turn = c .before .before .before in
     record-left _ _ (turn .before .before .pre .0) (turn .loop .inv .0) (c .before .before .loop-test .taken)
 
 returns-2 : tie.Need-returns-2 Inv-loop μ-loop
 returns-2 c =
     let turn = c .before .before .before .before .before in
-    some-left _ _ (turn .loop .inv .1) (omega (arith, c .before .others-in .ensures, c .if2 .taken))
+    some-left _ _ (turn .loop .inv .1) (c .before .differing .ensures .some (λ z. omega (arith, z, c .if2 .taken)))
 
 add-i : tie.Need-add-i Inv-loop μ-loop
 add-i c =
@@ -60,7 +60,7 @@ loop-less c = omega arith
 loop-again : tie.Need-loop-again Inv-loop μ-loop
 loop-again c =
     let turn = c .before .before .before .before .before in
-    (omega (arith, turn .loop .inv .0), omega (arith, c .before .others-in .ensures, c .if2 .left, turn .loop .inv .1))
+    (omega (arith, turn .loop .inv .0), turn .loop .inv .1 ∙ c .before .differing .ensures .none (omega (arith, c .if2 .left)))
 
 returns-3 : tie.Need-returns-3 Inv-loop μ-loop
 returns-3 c =
@@ -70,4 +70,4 @@ returns-3 c =
 pub at-end-spec : {M : Type 1} → statement M
 at-end-spec =
     tie.close
-    (tie.spec Inv-loop μ-loop loop-holds shared-slice-read-if1 returns others-in-requires returns-2 add-i loop-less loop-again returns-3)
+    (tie.spec Inv-loop μ-loop loop-holds shared-slice-read-if1 returns differing-requires returns-2 add-i loop-less loop-again returns-3)
