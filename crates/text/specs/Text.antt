@@ -187,6 +187,6 @@ sizeFault s = cond (badText s) TEXT-SIZE (cond (atEnd s) END DONE)
 unfoldable pub verdict : List ℕ → Answer
 verdict s = unless (sizeFault s) refusal (scanned s)
 
--- where the records after the first list begin: the end where the check refuses, or finds nothing more to read
+-- where the records after the first list begin: the end where the check refuses, or where nothing is left to read
 abbrev pub restAt : List ℕ → ℕ
 restAt s = cond (eqb (verdict s .no) 0 && not (atEnd (drop (verdict s .taken) s))) (verdict s .taken) (length s)
