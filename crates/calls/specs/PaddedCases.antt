@@ -35,6 +35,7 @@ filled s = over (chars s) (blanks recordBytes)
 
 abbrev pub cases : List Case
 cases =
+    stated [] 14 0 0 14 ∷
     stated (blanks 72) 14 0 72 14 ∷
     stated (blanks 65520) 14 0 65520 14 ∷
     stated (blanks 65592) 13 0 65592 14 ∷

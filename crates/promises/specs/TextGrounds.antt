@@ -1,4 +1,4 @@
--- When each answer about text is given, in document 01's words: what the text form allows after the characters so far,
+-- When each answer about text is given, in the words of documents 01 and 02: what the text form allows after the characters so far,
 -- and the rows of the text check, of reading and of writing.
 use mathlib.Core.Path.{_≡_}
 use mathlib.Core.Logic.{_≢_, _⊎_}

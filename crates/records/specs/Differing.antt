@@ -6,8 +6,7 @@ use mathlib.Core.List.{List}
 use lib.ListN.{drop}
 use Rattle.text.specs.Text.{others}
 
--- n tells of the bytes from a up to b: where it is 0 none of them counts among the others, and where it is not 0 some byte
--- from a on does
+-- n is 0 exactly if the bytes from a up to b are blanks: as many others stand from a on as from b on
 pub record Differing (s : List ℕ) (a b n : ℕ) : Type 0 where
   pub none : n ≡ 0 → others (drop a s) ≡ others (drop b s)
-  pub some : n ≢ 0 → 0 < others (drop a s)
+  pub some : n ≢ 0 → others (drop b s) < others (drop a s)

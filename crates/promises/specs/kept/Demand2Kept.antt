@@ -1,13 +1,13 @@
 -- Our engine keeps demand 2: operations and scripts follow the machine, reading and writing follow the text form and undo each other.
 use mathlib.Core.Path.{_≡_, refl, sym, ap, _∙_, subst}
-use mathlib.Core.Bool.{Bool, true, false, cond}
+use mathlib.Core.Bool.{false}
 use mathlib.Core.List.{List, []}
 use Prim.Native.Nat.{ℕ, _*_, _≤_, _<_}
 use native.Mathlib.Omega.{arith}
-use lib.Dec.{eqb, leb}
+use lib.Dec.{leb}
 use lib.ListN.{length, take, drop}
 use lib.Seq.{take-append-seam}
-use package.borrow.Author.Tests.{le-ltb, lt-leb, eq-eqb, ne-eqb}
+use package.borrow.Author.Tests.{lt-leb, eq-eqb, ne-eqb}
 use Rattle.answers.specs.Answers.{DONE}
 use Rattle.lists.specs.Lst.{Lst, extent}
 use Rattle.pool.specs.Pool.{Pool, holder, ListAt, frees}

@@ -24,15 +24,12 @@ use Rattle.promises.specs.OneOutcome.{one-answer}
 use Rattle.promises.specs.refuted.WrongEngines.{alwaysAnswers}
 use Rattle.promises.specs.refuted.WrongTexts.{countsNoDigits, runUncounted, readsOver, keepsOneBack, writesWhatFits}
 use Rattle.promises.specs.refuted.Computed.{checked, computed}
-use Rattle.promises.specs.refuted.Refuted.{zeros, one, full, none-used}
+use Rattle.promises.specs.refuted.Refuted.{zeros, one, null, full, none-used}
 use Rattle.table.specs.declared.Form.the-variants.{Four}
 
 -- a text of one record
 abbrev record72 : List ℕ → ℕ → List ℕ
 record72 t n = t ++ replicate n 32
-
-abbrev null : List ℕ
-null = record72 (40 ∷ 41 ∷ []) 70
 
 -- one answer for every call: a text of 0 bytes has another than the null list
 pub always-answers : (n : ℕ) → CheckRefusals (alwaysAnswers n) → ⊥

@@ -6,7 +6,6 @@ use mathlib.Core.Bool.{Bool}
 use mathlib.Core.List.{List, [], _∷_, _++_}
 use Prim.Native.Nat.{ℕ}
 use native.Mathlib.Omega.{arith}
-use lib.ListN.{replicate}
 use Rattle.text.specs.Text.{verdict}
 use Rattle.calls.specs.Read.{readIn, readingIn}
 use Rattle.promises.specs.TextGrounds.{readRows, checkRows}
@@ -16,15 +15,8 @@ use Rattle.promises.specs.kept.Demand1Kept.{demand1}
 use Rattle.promises.specs.OneOutcome.{one-answer}
 use Rattle.promises.specs.refuted.WrongEnds.{ending, blankFirst, blankRecord, blankButLast, blankAnySize, asksHolderFirst, handsBlanks, skipsBlanks}
 use Rattle.promises.specs.refuted.Computed.{checked, computed}
-use Rattle.promises.specs.refuted.Refuted.{zeros, one, full}
+use Rattle.promises.specs.refuted.Refuted.{zeros, one, blanks, null, full}
 use Rattle.table.specs.declared.Form.the-variants.{Four}
-
-abbrev blanks : ℕ → List ℕ
-blanks n = replicate n 32
-
--- the null list in a record of its own
-abbrev null : List ℕ
-null = 40 ∷ 41 ∷ blanks 70
 
 module _ (b : List ℕ → Bool) (xs : List ℕ) where
   checking : ending b .check xs .no ≢ verdict xs .no → CheckRefusals (ending b) → ⊥

@@ -43,6 +43,13 @@ one = setUp (zeros 70) 1 .table
 abbrev pub two : List ℕ
 two = setUp (zeros 74) 2 .table
 
+abbrev pub blanks : ℕ → List ℕ
+blanks n = replicate n 32
+
+-- the null list in a record of its own
+abbrev pub null : List ℕ
+null = 40 ∷ 41 ∷ blanks 70
+
 -- refusing everything: a set-up of the right size is no row's
 pub always-refuses : SetUpRefusals Four alwaysRefuses → ⊥
 always-refuses d = go (d (zeros 70) 1 64)

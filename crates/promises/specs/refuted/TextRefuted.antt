@@ -25,11 +25,8 @@ use Rattle.promises.specs.Demand2.{Words, Ready, ReadingGives, ReadingTa
 use Rattle.promises.specs.laws.TextEnds.{plain-records}
 use Rattle.promises.specs.refuted.WrongTexts.{takesAll, countsNoDigits, runUncounted, readsReversed, leadsWithZero, zeroed, writesNullAsZero, nullAsZero}
 use Rattle.promises.specs.refuted.Computed.{checked, computed}
-use Rattle.promises.specs.refuted.Refuted.{zeros, one, two, two-null}
+use Rattle.promises.specs.refuted.Refuted.{zeros, one, two, blanks, two-null}
 use Rattle.table.specs.declared.Form.the-variants.{Four}
-
-abbrev blanks : ℕ → List ℕ
-blanks n = replicate n 32
 
 -- (1,2) is read as (2,1)
 pub reads-reversed : ReadingGives Four readsReversed → ⊥

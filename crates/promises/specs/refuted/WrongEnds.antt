@@ -22,7 +22,7 @@ ending b = taking
     (notRead END ts ws) r)
     (λ xs. cond (b xs) (refusal END) (verdict xs))
 
--- of a text that is none at its size
+-- only where our own tests of the size find no fault
 abbrev sized : (List ℕ → Bool) → List ℕ → Bool
 sized b xs = eqb (sizeFault xs) DONE && b xs
 

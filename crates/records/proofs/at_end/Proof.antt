@@ -1,5 +1,4 @@
 -- `at_end` goes on from record to record. The invariant: as many are left at `i` as at the start.
-use borrow.Author.Needs.{needs}
 use Prim.Native.Nat.{ℕ, _+_, _-_, _%_, _≤_, _<_}
 use mathlib.Core.Path.{_≡_, sym, refl, _∙_}
 use mathlib.Core.Bool.{false}
@@ -47,7 +46,7 @@ differing-requires c κs =
 returns-2 : tie.Need-returns-2 Inv-loop μ-loop
 returns-2 c =
     let turn = c .before .before .before .before .before in
-    some-left _ _ (turn .loop .inv .1) (c .before .differing .ensures .some (λ z. omega (arith, z, c .if2 .taken)))
+    some-left _ _ (turn .loop .inv .1) (omega (arith, c .before .differing .ensures .some (λ z. omega (arith, z, c .if2 .taken))))
 
 add-i : tie.Need-add-i Inv-loop μ-loop
 add-i c =

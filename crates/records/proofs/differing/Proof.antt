@@ -1,5 +1,4 @@
 -- `differing` gathers the bits by which bytes differ from a blank. The invariant: they tell of the bytes up to `i`.
-use borrow.Author.Needs.{needs}
 use Prim.Native.Nat.{ℕ, _+_, _-_, _≤_, _<_}
 use mathlib.Core.Path.{_≡_, subst}
 use native.Mathlib.Omega.{arith}

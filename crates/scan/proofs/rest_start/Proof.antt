@@ -17,9 +17,7 @@ cast-start : tie.Need-cast-start
 cast-start c = search needs
 
 at-end-requires : tie.Need-at-end-requires
-at-end-requires c κs =
-    let w = whole-records _ (c .before .before .before .check .ensures) (c .before .if1 .left) in
-    (w .0, w .1)
+at-end-requires c κs = whole-records _ (c .before .before .before .check .ensures) (c .before .if1 .left)
 
 returns-2 : tie.Need-returns-2
 returns-2 c =
