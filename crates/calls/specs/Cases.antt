@@ -7,7 +7,7 @@ use mathlib.Core.Bool.{cond}
 use mathlib.Core.List.{List, [], _∷_, map}
 use Prim.Native.Nat.{ℕ, zero, suc}
 use lib.Dec.{eqb}
-use lib.ListN.{length, replicate}
+use lib.ListN.{length}
 use Rattle.answers.specs.Answers.{DONE}
 use Rattle.lists.specs.Lst.{Lst, len, order, extent, onto, reversed}
 use Rattle.pool.specs.Erase.{dropping, visit, step, total, dropped}
@@ -16,13 +16,11 @@ use Rattle.pool.specs.Pool.{Cell, nextOf, frees}
 use Rattle.pool.specs.Script.{FIRST, refusal, PFL, ERASE, effect, Run, performed}
 use Rattle.pool.specs.Tally.{same, tally}
 use Rattle.table.specs.Limits.{holdersMost}
-use Rattle.text.specs.Limits.{recordBytes}
 use Rattle.text.specs.ListText.{textOf}
 use Rattle.text.specs.Marks.{listIn}
 use Rattle.text.specs.Text.{scanned, others, sizeFault, verdict}
-use Rattle.calls.specs.Entry.{over}
 use Rattle.calls.specs.Run.{operations}
-use Rattle.calls.specs.Chars.{chars}
+use Rattle.calls.specs.Chars.{chars, inRecord}
 
 pub record Case : Type 0 where
   pub text : String
@@ -62,7 +60,7 @@ listRow l r = record {
 
 abbrev row : Case → Row
 row c =
-    let xs = over (chars (c .text)) (replicate recordBytes 32) in
+    let xs = inRecord (c .text) in
     let l = listIn xs in
     cond (eqb (verdict xs .no) DONE)
     (listRow l (performed (read (fresh (c .cells) holdersMost) 0 l) (operations (c .script))))
@@ -89,32 +87,28 @@ cases =
     record { text = "()"; cells = 1; script = PFL ∷ 0 ∷ 1 ∷ 0 ∷ [] } ∷
     []
 
--- a list on which nothing is performed
-abbrev stays : List ℕ → String → String → List ℕ → Row
-stays figures text backwards free = record {
+-- a list's figures, its text and that of the list reversed, what is said, the text afterwards and the free chain
+abbrev gives : List ℕ → String → String → List ℕ → String → List ℕ → Row
+gives figures text backwards results after free = record {
   answer = DONE;
   figures = figures;
   text = chars text;
   backwards = chars backwards;
-  results = [];
-  after = chars text;
+  results = results;
+  after = chars after;
   free = free;
 }
+
+-- a list on which nothing is performed
+abbrev stays : List ℕ → String → String → List ℕ → Row
+stays figures text backwards free = gives figures text backwards [] text free
 
 abbrev pub stated : List Row
 stated =
     stays (0 ∷ 1 ∷ 0 ∷ 2 ∷ []) "()" "()" (1 ∷ 2 ∷ 3 ∷ 4 ∷ 5 ∷ 6 ∷ []) ∷
     stays (1 ∷ 2 ∷ 1 ∷ 4 ∷ []) "(())" "(())" (2 ∷ 3 ∷ 4 ∷ 5 ∷ 6 ∷ []) ∷
     stays (3 ∷ 2 ∷ 6 ∷ 13 ∷ []) "((3),1,(1,2))" "((1,2),1,(3))" [] ∷
-    record {
-      answer = DONE;
-      figures = 1 ∷ 1 ∷ 1 ∷ 4 ∷ [];
-      text = chars "(12)";
-      backwards = chars "(12)";
-      results = 0 ∷ 10 ∷ [];
-      after = chars "(12)";
-      free = 2 ∷ 3 ∷ 4 ∷ 5 ∷ 6 ∷ [];
-    } ∷
+    gives (1 ∷ 1 ∷ 1 ∷ 4 ∷ []) "(12)" "(12)" (0 ∷ 10 ∷ []) "(12)" (2 ∷ 3 ∷ 4 ∷ 5 ∷ 6 ∷ []) ∷
     stays (1 ∷ 1 ∷ 1 ∷ 13 ∷ []) "(37777777777)" "(37777777777)" (2 ∷ 3 ∷ 4 ∷ 5 ∷ 6 ∷ []) ∷
     refusedRow 16 ∷
     refusedRow 16 ∷
@@ -122,33 +116,9 @@ stated =
     refusedRow 15 ∷
     refusedRow 15 ∷
     refusedRow 15 ∷
-    record {
-      answer = DONE;
-      figures = 2 ∷ 2 ∷ 3 ∷ 7 ∷ [];
-      text = chars "((3),1)";
-      backwards = chars "(1,(3))";
-      results = 2 ∷ 3 ∷ [];
-      after = chars "()";
-      free = 2 ∷ 1 ∷ 3 ∷ 4 ∷ [];
-    } ∷
-    record {
-      answer = DONE;
-      figures = 2 ∷ 2 ∷ 4 ∷ 9 ∷ [];
-      text = chars "((1),(2))";
-      backwards = chars "((2),(1))";
-      results = 2 ∷ 4 ∷ [];
-      after = chars "()";
-      free = 2 ∷ 1 ∷ 4 ∷ 3 ∷ [];
-    } ∷
-    record {
-      answer = DONE;
-      figures = 0 ∷ 1 ∷ 0 ∷ 2 ∷ [];
-      text = chars "()";
-      backwards = chars "()";
-      results = 3 ∷ 0 ∷ [];
-      after = chars "(())";
-      free = [];
-    } ∷
+    gives (2 ∷ 2 ∷ 3 ∷ 7 ∷ []) "((3),1)" "(1,(3))" (2 ∷ 3 ∷ []) "()" (2 ∷ 1 ∷ 3 ∷ 4 ∷ []) ∷
+    gives (2 ∷ 2 ∷ 4 ∷ 9 ∷ []) "((1),(2))" "((2),(1))" (2 ∷ 4 ∷ []) "()" (2 ∷ 1 ∷ 4 ∷ 3 ∷ []) ∷
+    gives (0 ∷ 1 ∷ 0 ∷ 2 ∷ []) "()" "()" (3 ∷ 0 ∷ []) "(())" [] ∷
     []
 
 pub edges : map row cases ≡ stated

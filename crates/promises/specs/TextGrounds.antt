@@ -1,5 +1,5 @@
--- When each answer about text is given, in the words of documents 01 and 02: what the text form allows after the characters so far,
--- and the rows of the text check, of reading and of writing.
+-- When each answer about text is given, in the words of documents 01 and 02: what the text form allows after the
+-- characters so far, and the rows of the text check, of reading and of writing.
 use mathlib.Core.Path.{_≡_}
 use mathlib.Core.Logic.{_≢_, _⊎_}
 use mathlib.Core.Bool.{false, cond}

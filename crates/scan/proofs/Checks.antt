@@ -12,8 +12,8 @@ use Rattle.answers.specs.declared.Outcome.{Outcome}
 use Rattle.text.specs.Text as text
 use Rattle.text.specs.Limits.{recordBytes}
 use Rattle.text.specs.Text.{begin, State, at, taken, run, answer, scanned, atEnd, sizeFault, verdict, restAt}
-use Rattle.text.specs.laws.Accepted.{accepted-size, taken-within}
-use Rattle.text.specs.laws.Rest.{rest-refused, taken-as, rest-blank, rest-more}
+use Rattle.text.specs.laws.Accepted.{taken-answer, accepted-size, taken-within}
+use Rattle.text.specs.laws.Rest.{rest-refused, rest-blank, rest-more}
 use Rattle.text.specs.laws.SizeLaws.{its-size, right-size, wrong-size}
 use Rattle.scan.specs.Outcomes.{scannedAs, answeredAs}
 use Rattle.scan.specs.declared.Scanned.{Scanned}
@@ -58,7 +58,7 @@ module _ (s : List ℕ) {a : Outcome} (e : a ≡ answeredAs (verdict s)) where
   module _ (z : a .answer ≡ 0) where
     pub whole-records : (length s % recordBytes ≡ 0) × (a .count % recordBytes ≡ 0)
     whole-records =
-        let took = taken-as s (sym number ∙ z) in
+        let took = taken-answer (verdict s) (sym number ∙ z) in
         (its-size s (accepted-size s (verdict s .taken) took .0) .whole, omega (arith, count, taken-within s (verdict s .taken) took .1))
 
     left : {b : Bool} → b ≡ atEnd (drop (a .count) s) → atEnd (drop (verdict s .taken) s) ≡ b

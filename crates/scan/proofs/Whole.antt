@@ -11,11 +11,11 @@ use denote.Enum.Declared.{tagOf}
 use Rattle.lists.specs.Lst.{extent}
 use Rattle.text.specs.Limits.{levels}
 use Rattle.text.specs.Text as text
-use Rattle.text.specs.Text.{place, begin, State, at, run, settle, stepOf, answer, scanned, refusal, done}
+use Rattle.text.specs.Text.{place, begin, State, at, run, settle, stepOf, answer, scanned, refusal}
 use Rattle.text.specs.Marks.{met, beginnings, trace, listIn}
 use Rattle.text.specs.laws.TextLaws.{decide, class}
 use Rattle.text.specs.laws.MarkLaws.{beginnings-append}
-use Rattle.text.specs.laws.Accepted.{beginnings-text, never-nought}
+use Rattle.text.specs.laws.Accepted.{taken-answer, beginnings-text, never-nought}
 use Rattle.scan.specs.Places.{opened, faultOf, overAt, stateOf, phaseOf, Outlook, outlook, outlookAt, Prospect, prospectAt, emitted, Inside, Taken}
 use Rattle.scan.specs.laws.Starts.{no-start}
 use Rattle.scan.specs.Outcomes.{Sized, saying, told, refusedScan, scannedAs}
@@ -38,8 +38,7 @@ whole-says s =
     let n = beginnings (trace (at begin 0) s) in
     let same : cond (eqb (a .no) 0) (0 + n - 1) 0 ≡ cond (eqb (a .no) 0) (extent (listIn s)) 0
     = decide (eqb (a .no) 0) (cond (eqb (a .no) 0) (0 + n - 1) 0 ≡ cond (eqb (a .no) 0) (extent (listIn s)) 0)
-    (λ e. let q : a ≡ done (a .taken) = ap (λ (k : ℕ). record { no = k; taken = a .taken }) (eqb-true (a .no) 0 e) in
-    let x : 0 + n - 1 ≡ extent (listIn s) = omega (arith, beginnings-text s (a .taken) q) in
+    (λ e. let x : 0 + n - 1 ≡ extent (listIn s) = omega (arith, beginnings-text s (a .taken) (taken-answer a (eqb-true (a .no) 0 e))) in
     ap (λ (k : ℕ). cond (eqb (a .no) 0) k 0) x)
     (λ e. simp e) in
     ap (λ (k : ℕ). record { answer = a .no; taken = a .taken; extent = k }) same

@@ -15,7 +15,7 @@ use Rattle.pool.specs.Operations.{read}
 use Rattle.pool.specs.Script.{performed}
 use Rattle.pool.specs.laws.ScriptLaws.{allowed}
 use Rattle.table.specs.Limits.{holdersTold}
-use Rattle.text.specs.laws.Accepted.{accepted, accepted-size}
+use Rattle.text.specs.laws.Accepted.{taken-answer, accepted, accepted-size}
 use Rattle.text.specs.ListText.{textOf, written}
 use Rattle.text.specs.Marks.{listIn}
 use Rattle.text.specs.Text.{Answer, done, others, verdict}
@@ -39,7 +39,7 @@ use Rattle.promises.specs.laws.OperationLaws.{HoldsIn, operation-does, a
 use Rattle.promises.specs.laws.Tables.{Good, good, stored-good, good-table, good-sound, fails}
 use Rattle.promises.specs.laws.RunLaws.{passed-good, run-ways}
 use Rattle.promises.specs.laws.ScriptDoes.{script-does, turn-other}
-use Rattle.promises.specs.laws.ReadLaws.{Taken, filledIn, read-ways, takes, read-pool, taken-verdict}
+use Rattle.promises.specs.laws.ReadLaws.{Taken, filledIn, read-ways, takes, read-pool}
 use Rattle.promises.specs.laws.WriteLaws.{Opened, opened-good, opens, listOf-is, judgement, write-ways}
 use Rattle.promises.specs.laws.OneOperation.{one-accepted, effect-stored}
 use Rattle.promises.specs.laws.Invariant.{ran-stored, read-stored, read-alike}
@@ -166,7 +166,7 @@ out-again form ts ws vs out h xs t =
         let d = read-pool form ts ws h xs k in
         let g = stored-good form ts q st (d .sound) in
         let m = verdict xs .taken in
-        let right = taken-verdict xs (k .right) in
+        let right = taken-answer (verdict xs) (k .right) in
         let told = cells-told form ts (entry-tests workWords form ts (length ws) (k .entered .entry) .0) in
         let o : Opened form us vs h = record { entry = passed (g .table) workWords (length vs) (omega (arith, st .cells, told)); held = held-as form ts us q h (st .shows) (read-alike (shown form ts) h (listIn xs) .holders) (k .entered .held); sound = good-sound form us g } in
         let w : Has form us h (listIn xs) = subst (λ (p : Pool). ListAt (p .cells) (holder p h) (listIn xs)) (sym (st .shows)) (d .gets) in

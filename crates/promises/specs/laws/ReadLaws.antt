@@ -17,7 +17,7 @@ use Rattle.pool.specs.laws.Room.{frees-lives}
 use Rattle.pool.specs.laws.Load.{Read, read-does}
 use Rattle.table.specs.Limits.{holdersTold}
 use Rattle.text.specs.Marks.{listIn}
-use Rattle.text.specs.Text.{done, sizeFault, verdict}
+use Rattle.text.specs.Text.{sizeFault, verdict}
 use Rattle.calls.specs.Entry.{workWords, entryFault, noHolder, shown, unsound, stored, used}
 use Rattle.calls.specs.Read.{Read as Reading, notRead, readingIn}
 use Rattle.promises.specs.laws.Tables.{Good, entered-good}
@@ -85,7 +85,3 @@ module _ (form : Form) (ts ws : List ℕ) (h : ℕ) (xs : List ℕ) where
       let g = reading-good (t .entered) in
       let below = leb-false (holdersTold form ts) h (t .entered .held) in
       read-does (shown form ts) h (listIn xs) (g .sound) (omega (arith, g .table .held)) (t .vacant) (omega (arith, t .room, frees-lives (shown form ts .cells)))
-
--- an accepted text has its bytes taken
-pub taken-verdict : (xs : List ℕ) → verdict xs .no ≡ DONE → verdict xs ≡ done (verdict xs .taken)
-taken-verdict xs e = λ i. record { no = e i; taken = verdict xs .taken }

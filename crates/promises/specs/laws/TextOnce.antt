@@ -15,11 +15,10 @@ use Rattle.text.specs.ListText.{octalF, octal, lead, items, textOf, bare}
 use Rattle.text.specs.Marks.{listIn}
 use Rattle.text.specs.Text.{verdict}
 use Rattle.text.specs.laws.TextLaws.{by-case}
-use Rattle.text.specs.laws.Accepted.{accepted}
+use Rattle.text.specs.laws.Accepted.{taken-answer, accepted}
 use Rattle.promises.specs.TextGrounds.{TakesRecords, Spells}
 use Rattle.promises.specs.laws.TextEnds.{records, plain-records}
 use Rattle.promises.specs.laws.TextRows.{check-takes}
-use Rattle.promises.specs.laws.ReadLaws.{taken-verdict}
 
 -- one place
 
@@ -174,6 +173,6 @@ spells-once xs m n l k (a, (t, r, e)) (b, (u, s, g)) =
 pub spells-ours : (xs : List ℕ) → verdict xs .no ≡ DONE → Spells xs (verdict xs .taken) (listIn xs)
 spells-ours xs e =
     let m = verdict xs .taken in
-    let right = taken-verdict xs e in
+    let right = taken-answer (verdict xs) e in
     let (t, r) = records xs m right in
     (check-takes xs e, (t, r, accepted xs m right .1 ∙ plain-records xs m t r))

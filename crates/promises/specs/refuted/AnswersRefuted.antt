@@ -10,6 +10,7 @@ use Rattle.lists.specs.Lst.{extent}
 use Rattle.pool.specs.Operations.{load, read, listFrom}
 use Rattle.pool.specs.Tally.{Number, start, miss}
 use Rattle.text.specs.Marks.{listIn}
+use Rattle.calls.specs.Chars.{blanks}
 use Rattle.calls.specs.Entry.{shown}
 use Rattle.calls.specs.Read.{readingIn}
 use Rattle.calls.specs.Write.{writingIn}
@@ -27,10 +28,6 @@ use Rattle.promises.specs.refuted.Computed.{checked, computed}
 use Rattle.promises.specs.refuted.Refuted.{zeros, one, null, full, none-used}
 use Rattle.table.specs.declared.Form.the-variants.{Four}
 
--- a text of one record
-abbrev record72 : List ℕ → ℕ → List ℕ
-record72 t n = t ++ replicate n 32
-
 -- one answer for every call: a text of 0 bytes has another than the null list
 pub always-answers : (n : ℕ) → CheckRefusals (alwaysAnswers n) → ⊥
 unfolding checked
@@ -43,7 +40,7 @@ always-answers n d =
 pub counts-no-digits-done : CheckRefusals countsNoDigits → ⊥
 unfolding checked runUncounted
 counts-no-digits-done d =
-    let xs = record72 (40 ∷ (replicate 12 48 ++ (41 ∷ []))) 58 in
+    let xs : List ℕ = 40 ∷ (replicate 12 48 ++ (41 ∷ blanks 58)) in
     let e : _≡_ {A = ℕ} 0 16 = one-answer (checkRows xs) _ _ (d xs) (demand1 Four .check-refusals xs) in
     omega arith
 
@@ -66,7 +63,7 @@ writes-what-fits d =
 pub keeps-one-back : NoRoomToRead Four keepsOneBack → ⊥
 unfolding computed readingIn listIn extent load read
 keeps-one-back d =
-    let xs = record72 (40 ∷ 49 ∷ 41 ∷ []) 69 in
+    let xs : List ℕ = 40 ∷ 49 ∷ 41 ∷ blanks 69 in
     let (n, _) = first-none (checkRows xs) (λ m. m ≡ DONE) DONE
     ((λ z. omega arith), ((λ z. omega arith), ((λ z. omega arith), ((λ z. omega arith), ((λ z. omega arith), tt))))) (demand1 Four .check-refusals xs) in
     let k : Number (Used (shown Four one)) 1 0 = miss (none-used (shown Four one) 64 refl 1 (λ z. omega arith)) start in

@@ -7,6 +7,7 @@ use mathlib.Core.List.{List, [], _∷_, _++_}
 use Prim.Native.Nat.{ℕ}
 use native.Mathlib.Omega.{arith}
 use Rattle.text.specs.Text.{verdict}
+use Rattle.calls.specs.Chars.{blanks}
 use Rattle.calls.specs.Read.{readIn, readingIn}
 use Rattle.promises.specs.TextGrounds.{readRows, checkRows}
 use Rattle.promises.specs.Demand1.{ReadRefusals, CheckRefusals}
@@ -15,7 +16,7 @@ use Rattle.promises.specs.kept.Demand1Kept.{demand1}
 use Rattle.promises.specs.OneOutcome.{one-answer}
 use Rattle.promises.specs.refuted.WrongEnds.{ending, blankFirst, blankRecord, blankButLast, blankAnySize, asksHolderFirst, handsBlanks, skipsBlanks}
 use Rattle.promises.specs.refuted.Computed.{checked, computed}
-use Rattle.promises.specs.refuted.Refuted.{zeros, one, blanks, null, full}
+use Rattle.promises.specs.refuted.Refuted.{zeros, one, null, full}
 use Rattle.table.specs.declared.Form.the-variants.{Four}
 
 module _ (b : List ℕ → Bool) (xs : List ℕ) where

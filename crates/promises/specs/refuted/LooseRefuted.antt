@@ -10,6 +10,7 @@ use Rattle.pool.specs.Pool.{Cell, Chain}
 use Rattle.pool.specs.Operations.{pfl, copy, cinv, load, read}
 use Rattle.pool.specs.Script.{PFL, BORROW, ERASE, Operation}
 use Rattle.text.specs.Marks.{listIn}
+use Rattle.calls.specs.Chars.{blanks}
 use Rattle.calls.specs.SetUp.{setUp}
 use Rattle.calls.specs.Entry.{shown}
 use Rattle.calls.specs.Read.{readingIn}
@@ -67,7 +68,7 @@ pub keeps-cells : RefusedRead keepsCells → ⊥
 unfolding computed readingIn
 keeps-cells d =
     let one = setUp (zeros 70) 1 .table in
-    let e = d one (zeros 2) 0 (40 ∷ replicate 71 32) (λ z. omega arith) .0 in
+    let e = d one (zeros 2) 0 (40 ∷ blanks 71) (λ z. omega arith) .0 in
     omega (arith, ap (λ (us : List ℕ). shown Four us .free) e)
 
 -- a text of 0 bytes is refused, with 0 bytes taken
@@ -77,7 +78,7 @@ counts-refused d = omega (arith, d [] (λ z. omega arith))
 
 -- the null list in one record, and a record behind it
 abbrev text : List ℕ
-text = 40 ∷ 41 ∷ (replicate 70 32 ++ replicate 72 40)
+text = 40 ∷ 41 ∷ (blanks 70 ++ replicate 72 40)
 
 pub loses-rest : RestGives losesRest → ⊥
 unfolding checked
@@ -114,7 +115,7 @@ pub takes-late : ReadingUsesItsCells Four takesLate → ⊥
 unfolding computed readingIn listIn extent load read loadLate Laid Chain
 takes-late d =
     let three = setUp (zeros 78) 3 .table in
-    let xs : List ℕ = 40 ∷ 40 ∷ 49 ∷ 41 ∷ 44 ∷ 50 ∷ 41 ∷ replicate 65 32 in
+    let xs : List ℕ = 40 ∷ 40 ∷ 49 ∷ 41 ∷ 44 ∷ 50 ∷ 41 ∷ blanks 65 in
     let r = d three (zeros 6) 0 xs refl (listIn xs) (1 ∷ 2 ∷ 3 ∷ []) (spells-ours xs refl) (refl, (λ z. omega arith), (refl, (λ z. omega arith), (refl, (λ z. omega arith), refl))) in
     let e : _≡_ {A = ℕ} 3 2 = ap (λ (c : Cell). c .elem) (r .laid .0) in
     omega arith

@@ -12,6 +12,7 @@ use Rattle.pool.specs.laws.Fresh.{zero-at}
 use Rattle.pool.specs.Tally.{Number, start, hit, miss}
 use Rattle.pool.specs.Pool.{Cell, Pool, countOf, holder, ListAt, Walk}
 use Rattle.pool.specs.Script.{PFA, LENGTH, Operation}
+use Rattle.calls.specs.Chars.{blanks}
 use Rattle.calls.specs.SetUp.{setUp}
 use Rattle.calls.specs.Entry.{shown}
 use Rattle.promises.specs.Engine.{Engine, Reached, made, ranOn}
@@ -42,9 +43,6 @@ one = setUp (zeros 70) 1 .table
 
 abbrev pub two : List ℕ
 two = setUp (zeros 74) 2 .table
-
-abbrev pub blanks : ℕ → List ℕ
-blanks n = replicate n 32
 
 -- the null list in a record of its own
 abbrev pub null : List ℕ

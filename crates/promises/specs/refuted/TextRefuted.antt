@@ -15,6 +15,7 @@ use Rattle.pool.specs.laws.PoolLaws.{ListAt-unique}
 use Rattle.pool.specs.Operations.{load, read, listFrom}
 use Rattle.text.specs.ListText.{textOf}
 use Rattle.text.specs.Marks.{listIn}
+use Rattle.calls.specs.Chars.{blanks}
 use Rattle.calls.specs.Entry.{badTable, shown}
 use Rattle.calls.specs.Read.{readingIn}
 use Rattle.calls.specs.Write.{writingIn}
@@ -25,7 +26,7 @@ use Rattle.promises.specs.Demand2.{Words, Ready, ReadingGives, ReadingTa
 use Rattle.promises.specs.laws.TextEnds.{plain-records}
 use Rattle.promises.specs.refuted.WrongTexts.{takesAll, countsNoDigits, runUncounted, readsReversed, leadsWithZero, zeroed, writesNullAsZero, nullAsZero}
 use Rattle.promises.specs.refuted.Computed.{checked, computed}
-use Rattle.promises.specs.refuted.Refuted.{zeros, one, two, blanks, two-null}
+use Rattle.promises.specs.refuted.Refuted.{zeros, one, two, two-null}
 use Rattle.table.specs.declared.Form.the-variants.{Four}
 
 -- (1,2) is read as (2,1)

@@ -89,6 +89,10 @@ pub scanned-run : (s : List ℕ) (m : ℕ) → scanned s ≡ done m → run (at 
 unfolding scanned
 scanned-run s m e = answer-taken (run (at begin 0) s) m (run-honest s (at begin 0) tt) e
 
+-- an answer that refuses nothing is told by its bytes
+pub taken-answer : (a : Answer) → a .no ≡ DONE → a ≡ done (a .taken)
+taken-answer a z = ap (λ (k : ℕ). record { no = k; taken = a .taken }) z
+
 -- the size was right
 pub accepted-size : (s : List ℕ) (m : ℕ) → verdict s ≡ done m → (sizeFault s ≡ DONE) × (scanned s ≡ done m)
 unfolding verdict

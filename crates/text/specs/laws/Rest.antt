@@ -8,8 +8,8 @@ use native.Mathlib.Decide.{ℕ-discrete}
 use native.Mathlib.Omega.{arith}
 use lib.ListN.{length, drop}
 use borrow.Author.Tests.{eq-eqb, ne-eqb}
-use Rattle.text.specs.Text.{Answer, done, atEnd, verdict, restAt}
-use Rattle.text.specs.laws.Accepted.{taken-within}
+use Rattle.text.specs.Text.{Answer, atEnd, verdict, restAt}
+use Rattle.text.specs.laws.Accepted.{taken-answer, taken-within}
 
 module _ (s : List ℕ) where
   abbrev begins : Answer → Bool → Bool → ℕ
@@ -17,10 +17,6 @@ module _ (s : List ℕ) where
 
   pub rest-refused : verdict s .no ≢ 0 → restAt s ≡ length s
   rest-refused d = ap (λ (b : Bool). begins (verdict s) b (atEnd (drop (verdict s .taken) s))) (ne-eqb (verdict s .no) 0 d)
-
-  -- the answer that the text is taken, by its number
-  pub taken-as : verdict s .no ≡ 0 → verdict s ≡ done (verdict s .taken)
-  taken-as z = ap (λ (k : ℕ). record { no = k; taken = verdict s .taken }) z
 
   module _ (z : verdict s .no ≡ 0) where
     by-end : restAt s ≡ begins (verdict s) true (atEnd (drop (verdict s .taken) s))
@@ -38,4 +34,4 @@ module _ (s : List ℕ) where
       go : Dec (verdict s .no ≡ 0) → (b : Bool) → atEnd (drop (verdict s .taken) s) ≡ b → restAt s ≤ length s
       go (no d) b q = omega (arith, rest-refused d)
       go (yes z) true q = omega (arith, rest-blank z q)
-      go (yes z) false q = omega (arith, rest-more z q, taken-within s (verdict s .taken) (taken-as z) .0)
+      go (yes z) false q = omega (arith, rest-more z q, taken-within s (verdict s .taken) (taken-answer (verdict s) z) .0)
