@@ -4,6 +4,7 @@ use mathlib.Core.Bool.{cond}
 use Prim.Native.Nat.{ℕ}
 use lib.Dec.{eqb}
 use Rattle.answers.specs.declared.Outcome.{Outcome}
+use Rattle.answers.specs.declared.Moved.{Moved}
 
 abbrev pub DONE : ℕ
 DONE = 0
@@ -80,6 +81,10 @@ DEEP = 17
 abbrev pub OUTPUT : ℕ
 OUTPUT = 18
 
+-- bytes that are no list in groups
+abbrev pub GROUPS : ℕ
+GROUPS = 19
+
 abbrev pub outcome : ℕ → ℕ → Outcome
 outcome n k = record { answer = n; count = k }
 
@@ -89,6 +94,13 @@ refused n = outcome n 0
 
 abbrev pub done : ℕ → Outcome
 done k = outcome DONE k
+
+-- a move gives two numbers beside its answer
+abbrev pub moved : ℕ → ℕ → ℕ → Moved
+moved n t w = record { answer = n; taken = t; written = w }
+
+abbrev pub notMoved : ℕ → Moved
+notMoved n = moved n 0 0
 
 -- a call goes on where its tests so far answer DONE, and else is refused with their answer
 abbrev pub unless : {X : Type 0} → ℕ → (ℕ → X) → X → X

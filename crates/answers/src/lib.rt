@@ -1,7 +1,7 @@
 // The numbers that the calls go by: answers, codes of operations, kinds of results, and the answer of a call with the
 // number beside it.
 ghost use mathlib.Core.Path.{_≡_};
-ghost use Rattle.answers.specs.Answers.{refused, done, outcome};
+ghost use Rattle.answers.specs.Answers.{DONE, refused, done, outcome, moved, notMoved};
 
 pub struct Answer(pub u32);
 
@@ -43,6 +43,8 @@ impl Answer {
     pub const DEEP: u32 = 17;
 
     pub const OUTPUT: u32 = 18;
+
+    pub const GROUPS: u32 = 19;
 }
 
 // The codes of the operations.
@@ -115,5 +117,35 @@ impl Outcome {
         ensures { λ r. ⌜ r ≡ outcome answer count ⌝ }
     {
         Outcome { answer, count }
+    }
+}
+
+// An answer, the bytes taken of one stored form and the bytes written of the other.
+#[repr(C)]
+pub struct Moved {
+    pub answer: u32,
+    pub taken: u32,
+    pub written: u32,
+}
+
+impl Moved {
+    pub fn refused(answer: u32) -> Moved
+        ensures { λ r. ⌜ r ≡ notMoved answer ⌝ }
+    {
+        Moved {
+            answer,
+            taken: 0,
+            written: 0,
+        }
+    }
+
+    pub fn done(taken: u32, written: u32) -> Moved
+        ensures { λ r. ⌜ r ≡ moved DONE taken written ⌝ }
+    {
+        Moved {
+            answer: Answer::DONE,
+            taken,
+            written,
+        }
     }
 }

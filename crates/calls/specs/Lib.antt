@@ -3,6 +3,7 @@ pub mod Entry
 pub mod Run
 pub mod Read
 pub mod Write
+pub mod Move
 pub mod Contracts
 pub mod Chars
 pub mod SameForm

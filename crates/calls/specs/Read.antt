@@ -1,5 +1,6 @@
--- What reading a text into a holder gives, for all words and bytes: every refusal comes before anything is changed, and
--- the earliest text fault before NO ROOM.
+-- What reading a stored list into a holder gives, for all words and bytes: every refusal comes before anything is
+-- changed, and the earliest fault of the bytes before NO ROOM. The two stored forms differ in how bytes are judged and
+-- in nothing else.
 use mathlib.Core.Bool.{cond, not}
 use mathlib.Core.List.{List}
 use Prim.Native.Nat.{ℕ}
@@ -9,8 +10,8 @@ use Rattle.answers.specs.Answers.{DONE, UNSOUND, HOLDER, OCCUPIED, NO-ROOM, unl
 use Rattle.lists.specs.Lst.{extent}
 use Rattle.pool.specs.Operations.{read}
 use Rattle.pool.specs.Pool.{holder, frees}
-use Rattle.text.specs.Marks.{listIn}
-use Rattle.text.specs.Text.{sizeFault, verdict}
+use Rattle.groups.specs.Stored.{sizeFault, verdict, listIn}
+use Rattle.groups.specs.declared.Stored.{Stored}
 use Rattle.table.specs.declared.Form.{Form}
 use Rattle.table.specs.declared.Form.the-variants.{Four}
 use Rattle.calls.specs.Entry.{workWords, entryFault, noHolder, shown, unsound, stored, used}
@@ -25,24 +26,24 @@ pub record Read : Type 0 where
 abbrev pub notRead : ℕ → List ℕ → List ℕ → Read
 notRead n ts ws = record { answer = n; count = 0; table = ts; work = ws }
 
--- a text that is to go into holder h of a sound pool
-abbrev pub readInto : Form → List ℕ → List ℕ → ℕ → List ℕ → Read
-readInto f ts ws h xs =
+-- bytes that are to go into holder h of a sound pool
+abbrev pub readInto : Form → Stored → List ℕ → List ℕ → ℕ → List ℕ → Read
+readInto f k ts ws h xs =
     let p = shown f ts in
-    let v = verdict xs in
+    let v = verdict k xs in
     cond (not (eqb (holder p h) 0)) (notRead OCCUPIED ts (used f ts ws))
     (unless (v .no) (λ n. notRead n ts (used f ts ws))
-    (cond (ltb (frees (p .cells)) (extent (listIn xs))) (notRead NO-ROOM ts (used f ts ws))
-    (record { answer = DONE; count = v .taken; table = stored f ts (read p h (listIn xs)); work = used f ts ws })))
+    (cond (ltb (frees (p .cells)) (extent (listIn k xs))) (notRead NO-ROOM ts (used f ts ws))
+    (record { answer = DONE; count = v .taken; table = stored f ts (read p h (listIn k xs)); work = used f ts ws })))
 
-unfoldable pub readingIn : Form → List ℕ → List ℕ → ℕ → List ℕ → Read
-readingIn f ts ws h xs =
+unfoldable pub readingIn : Form → Stored → List ℕ → List ℕ → ℕ → List ℕ → Read
+readingIn f k ts ws h xs =
     unless (entryFault workWords f ts (length ws)) (λ n. notRead n ts ws)
     (cond (noHolder f ts h) (notRead HOLDER ts ws)
-    (unless (sizeFault xs) (λ n. notRead n ts ws)
+    (unless (sizeFault k xs) (λ n. notRead n ts ws)
     (cond (unsound f ts) (notRead UNSOUND ts (used f ts ws))
-    (readInto f ts ws h xs))))
+    (readInto f k ts ws h xs))))
 
 -- on a table with four words a cell
-abbrev pub readIn : List ℕ → List ℕ → ℕ → List ℕ → Read
-readIn ts ws h xs = readingIn Four ts ws h xs
+abbrev pub readIn : Stored → List ℕ → List ℕ → ℕ → List ℕ → Read
+readIn k ts ws h xs = readingIn Four k ts ws h xs

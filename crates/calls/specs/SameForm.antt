@@ -1,12 +1,11 @@
 -- A table stands for another of any form that shows the same pool. Every script run, reading and writing on the two
 -- gives the same answer, numbers, results, work space and output, and leaves tables that stand for each other again.
-use mathlib.Core.Path.{_≡_, refl, sym, ap, ap₂, _∙_, subst}
+use mathlib.Core.Path.{_≡_, refl, sym, ap, _∙_, subst}
 use mathlib.Core.Bool.{Bool, true, false, cond, not, false≢true}
 use mathlib.Core.List.{List}
-use Prim.Native.Nat.{ℕ, _*_, _≤_}
-use native.Mathlib.Omega.{arith}
+use Prim.Native.Nat.{ℕ, _*_}
 use lib.Dec.{eqb, leb}
-use lib.ListN.{length, drop}
+use lib.ListN.{length}
 use Rattle.answers.specs.Answers.{DONE, UNSOUND, HOLDER, unless}
 use Rattle.pool.specs.Check.{check}
 use Rattle.pool.specs.laws.CheckLaws.{check-decides}
@@ -14,6 +13,7 @@ use Rattle.pool.specs.laws.Lengths.{Alike}
 use Rattle.pool.specs.Pool.{Pool, Sound}
 use Rattle.pool.specs.Script.{performed}
 use Rattle.pool.specs.laws.ScriptLaws.{performed-sound, performed-alike}
+use Rattle.groups.specs.declared.Stored.{Stored}
 use Rattle.table.specs.declared.Form.{Form}
 use Rattle.table.specs.declared.Shape.{Shape}
 use Rattle.table.specs.laws.Fitting.{stored-shows}
@@ -133,10 +133,10 @@ module _ (f g : Form) (ts us : List ℕ) (k : StandsFor f g ts us) where
   same-holders : holderCount (shapeOf f ts) ≡ holderCount (shapeOf g us)
   same-holders = sym (k .first .held) ∙ ap (λ (p : Pool). length (p .holders)) (k .same) ∙ k .second .held
 
-  pub writes-same : (ws : List ℕ) (h : ℕ) (out : List ℕ) → writingIn f ts ws h out ≡ writingIn g us ws h out
+  pub writes-same : (j : Stored) (ws : List ℕ) (h : ℕ) (out : List ℕ) → writingIn f j ts ws h out ≡ writingIn g j us ws h out
   unfolding writingIn
-  writes-same ws h out = λ i.
+  writes-same j ws h out = λ i.
       unless (same-entry f g ts us k workWords (length ws) i) (λ n. notWritten n ws out)
       (cond (leb (same-holders i) h) (notWritten HOLDER ws out)
       (cond (not (check (k .same i))) (notWritten UNSOUND (cleared (workWords * same-cells f g ts us k i) ws) out)
-      (writeList (listOf (k .same i) h) (cleared (workWords * same-cells f g ts us k i) ws) out)))
+      (writeList j (listOf (k .same i) h) (cleared (workWords * same-cells f g ts us k i) ws) out)))

@@ -6,7 +6,7 @@ use Prim.Native.Nat.{ℕ, zero, suc}
 use lib.Dec.{eqb, ltb}
 use lib.ListN.{length, replicate}
 use Rattle.lists.specs.Lst.{Lst, nil, atom, list}
-use Rattle.pool.specs.Pool.{Cell, blank, Pool, put, kindOf, elemOf, countOf, nextOf, setCount, setNext, holder}
+use Rattle.pool.specs.Pool.{Cell, blank, Pool, put, kindOf, elemOf, countOf, nextOf, setCount, setNext, holder, ListAt}
 use Rattle.pool.specs.Setters.{putFree, putHolder, celled, putCount, putNext, cell, newCell, release}
 use Rattle.pool.specs.Erase.{dropped}
 
@@ -165,6 +165,13 @@ listFrom (suc k) cs (suc i) =
     let l = listFrom k cs (nextOf cs (suc i)) in
     let e = listFrom k cs (elemOf cs (suc i)) in
     cond (eqb (kindOf cs (suc i)) 0) (atom (elemOf cs (suc i)) l) (list e l)
+
+-- the list at number x, and that x stands for a list
+abbrev pub listAt : List Cell → ℕ → Lst
+listAt cs x = listFrom (length cs) cs x
+
+abbrev pub Stands : List Cell → ℕ → Type 0
+Stands cs x = ListAt cs x (listAt cs x)
 
 abbrev pub listOf : Pool → ℕ → Lst
 listOf p h = listFrom (length (p .cells)) (p .cells) (holder p h)

@@ -57,7 +57,7 @@ shared-next k cs (suc i) l = refl
 
 -- as many turns as there are cells are enough
 
-span-is : (n k : ℕ) (cs : List Cell) (c : ℕ) → n ≤ k → Level n cs c → span k cs c ≡ n
+pub span-is : (n k : ℕ) (cs : List Cell) (c : ℕ) → n ≤ k → Level n cs c → span k cs c ≡ n
 unfolding Level
 span-is zero k cs c s w = span-null k cs c w
 span-is (suc n) zero cs c s w = absurd (omega arith)

@@ -1,6 +1,6 @@
 -- Writing is refused exactly where the list is too deep or its text too long; what is written is read again, and what was read can be written.
 -- The deepest level of a list's text is its order, by induction on the list; the judgement compares it and the length, by induction on the characters.
-use Prim.Native.Nat.{ℕ, zero, suc, _+_, _-_, _/_, _%_, _≤_, max}
+use Prim.Native.Nat.{ℕ, zero, suc, _+_, _-_, _/_, _%_, _≤_, _<_, max}
 use mathlib.Core.Path.{_≡_, refl, sym, ap, _∙_}
 use mathlib.Core.List.{List, [], _∷_, _++_, append-assoc, append-nil}
 use mathlib.Core.Bool.{Bool, true, false, cond}
@@ -8,6 +8,7 @@ use native.Mathlib.Omega.{arith}
 use lib.ListN.{length, length-append, length-replicate, take, length-take}
 use lib.Dec.{eqb, leb, ltb, leb·suc-suc}
 use borrow.Author.Tests.{ne-eqb, lt-leb, le-leb, leb-false, eqb-false}
+use Rattle.answers.specs.Answers.{OUTPUT}
 use Rattle.lists.specs.Lst.{Lst, nil, atom, list, order, Atoms}
 use Rattle.text.specs.Limits.{levels, recordBytes}
 use Rattle.text.specs.Text.{verdict, done}
@@ -115,6 +116,14 @@ fits-judged (b ∷ t) u d h k =
     let f : u ≡ 0 → ⊥ = λ z. omega arith in
     simp (e, ne-eqb u 0 f) (fits-judged t (u - 1) (depthAfter d b) (omega arith) (omega arith))
 
+too-long : (t : List ℕ) (u d : ℕ) → deepest d t ≤ levels → u < length t → judged u d t ≡ OUTPUT
+too-long [] u d h k = absurd (omega arith)
+too-long (b ∷ t) zero d h k = simp (shallow d b (omega (arith, deepest-from (depthAfter d b) t)))
+too-long (b ∷ t) (suc u) d h k =
+    let e = shallow d b (omega (arith, deepest-from (depthAfter d b) t)) in
+    let z : suc u - 1 ≡ u = omega arith in
+    simp (e, ne-eqb (suc u) 0 (λ q. omega arith), z) (too-long t u (depthAfter d b) (omega arith) (omega arith))
+
 -- characters that are no parentheses are judged by their number
 pub judged-plain : (a t : List ℕ) (u d : ℕ) → Plain a → judged u d (a ++ t) ≡ cond (leb (length a) u) (judged (u - length a) d t) 18
 judged-plain [] t u d p =
@@ -134,6 +143,9 @@ writable u l e =
 
 pub writes : (u : ℕ) (l : Lst) → order l ≤ levels → length (textOf l) ≤ u → judged u 0 (textOf l) ≡ 0
 writes u l h k = fits-judged (textOf l) u 0 (omega (arith, deepest-order l)) k
+
+pub overflows : (u : ℕ) (l : Lst) → order l ≤ levels → u < length (textOf l) → judged u 0 (textOf l) ≡ OUTPUT
+overflows u l h k = too-long (textOf l) u 0 (omega (arith, deepest-order l)) k
 
 -- the text with its fill ends with its record
 written-length : (l : Lst) → length (written l) ≡ length (textOf l) + (recordBytes - length (textOf l) % recordBytes) % recordBytes

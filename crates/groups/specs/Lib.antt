@@ -1,0 +1,9 @@
+pub mod Groups
+pub mod Reading
+pub mod Writing
+pub mod LastGroups
+pub mod Holding
+pub mod Depth
+pub mod Stored
+pub mod Cases
+pub mod laws
