@@ -1,4 +1,5 @@
 -- `building::shut_list` meets its contract.
+use mathlib.Core.Path.{refl}
 use native.Mathlib.Omega.{arith}
 use borrow.Author.Needs.{needs}
 use Rattle.building.specs.laws.StepLaws.{hook-in, shuts}
@@ -14,7 +15,7 @@ same-length : tie.Need-same-length
 same-length c = search needs
 
 returns : tie.Need-returns
-returns c = shuts (c .before .before .hang .ensures)
+returns c = (shuts (c .before .before .hang .ensures), refl)
 
 pub shut-list-spec : {M : Type 1} → statement M
 shut-list-spec = tie.close (tie.spec hang-requires same-length returns)

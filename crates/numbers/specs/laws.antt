@@ -1,0 +1,5 @@
+pub mod RaisedLaws
+pub mod SeveralLaws
+pub mod NumberedLaws
+pub mod PuttingLaws
+pub mod BitLaws

@@ -1,0 +1,3 @@
+pub mod Ahead
+pub mod Readers
+pub mod laws

@@ -1,0 +1,5 @@
+pub mod AheadLaws
+pub mod PassLaws
+pub mod ElementLaws
+pub mod ListLaws
+pub mod WholeLaws
