@@ -5,8 +5,9 @@ ghost use Prim.Native.Nat.{_≤_, _<_};
 ghost use lib.Dec.{leb};
 ghost use lib.ListN.{length};
 ghost use Rattle.levels.specs.Joining.{EndsWith};
-ghost use Rattle.pool.specs.Operations.{lengthOf, sharedAt};
+ghost use Rattle.pool.specs.Operations.{lengthOf, sharedAt, span};
 ghost use Rattle.pool.specs.Pool.{frees, Sound};
+ghost use Rattle.pool.specs.laws.Level.{Left};
 ghost use Rattle.table.specs.View.{holderCount, view, Table};
 use table::Shape;
 
@@ -16,19 +17,29 @@ pub struct End {
     pub last: usize,
 }
 
+// The cells of the main level at x.
+pub fn length_at(s: Shape, t: &[u32], x: usize) -> usize
+    requires { ⌜ Table s (now t) ⌝ }
+    requires { ⌜ Left (view s (now t) .cells) x ⌝ }
+    ensures { λ r. ⌜
+        (r ≡ span (length (view s (now (t .entry)) .cells)) (view s (now (t .entry)) .cells) x) × (r ≤ s .cells) ⌝ }
+{
+    let mut c = x;
+    let mut n = 0;
+    while c != 0 {
+        n += 1;
+        c = table::next_of(s, t, c);
+    }
+    n
+}
+
 pub fn length(s: Shape, t: &[u32], a: usize) -> usize
     requires { ⌜ Table s (now t) ⌝ }
     requires { ⌜ a < holderCount s ⌝ }
     requires { ⌜ Sound (view s (now t)) ⌝ }
     ensures { λ r. ⌜ (r ≡ lengthOf (view s (now (t .entry))) a) × (r ≤ s .cells) ⌝ }
 {
-    let mut x = table::holder_of(s, t, a);
-    let mut n = 0;
-    while x != 0 {
-        n += 1;
-        x = table::next_of(s, t, x);
-    }
-    n
+    length_at(s, t, table::holder_of(s, t, a))
 }
 
 // Whether there are as many free cells as cells on the main level: one of each at a time, so that a long free chain

@@ -4,24 +4,16 @@ use mathlib.Core.Path.{_≡_}
 use mathlib.Core.List.{List}
 use lib.ListN.{length}
 use Rattle.answers.specs.Answers.{DONE}
-use Rattle.lists.specs.Lst.{Lst}
-use Rattle.pool.specs.Operations.{listFrom}
-use Rattle.pool.specs.Pool.{Cell, ListAt}
+use Rattle.pool.specs.Operations.{listAt}
+use Rattle.pool.specs.Pool.{Cell}
 use Rattle.text.specs.Limits.{textMost}
 use Rattle.text.specs.ListText.{textOf}
 use Rattle.text.specs.Writing.{judged}
 use Rattle.writing.specs.declared.walk.Measured.{Measured}
 
--- the list at x, and its text
-abbrev pub listAt : List Cell → ℕ → Lst
-listAt cs x = listFrom (length cs) cs x
-
+-- the text of the list at x
 abbrev pub textAt : List Cell → ℕ → List ℕ
 textAt cs x = textOf (listAt cs x)
-
--- number x stands for a list
-abbrev pub Stands : List Cell → ℕ → Type 0
-Stands cs x = ListAt cs x (listAt cs x)
 
 abbrev pub measured : ℕ → ℕ → Measured
 measured n k = record { answer = n; size = k }

@@ -3,9 +3,7 @@
 use Prim.Native.Nat.{ℕ, zero, suc, _+_, _-_, _≤_, _<_}
 use mathlib.Core.Path.{_≡_}
 use mathlib.Core.Logic.{_≢_}
-use mathlib.Core.Bool.{Bool, false, cond, not}
 use mathlib.Core.List.{List, [], _∷_, _++_}
-use lib.Dec.{eqb}
 use lib.ListN.{length, getD, set}
 use Rattle.pool.specs.Pool.{Cell, kindOf, elemOf, nextOf}
 use Rattle.table.specs.declared.Shape.{Shape}
@@ -44,10 +42,6 @@ keptAt cs after w = set after (w .depth) (nextOf cs (w .at))
 -- "(" of an element
 abbrev pub Opened : List Cell → List ℕ → Walk → List ℕ → Walk → Type 0
 Opened cs after w next r = (r ≡ openAt cs w) × (next ≡ keptAt cs after w)
-
--- the cell x has a list for its element
-abbrev pub opensAt : List Cell → ℕ → Bool
-opensAt cs x = cond (eqb x 0) false (not (eqb (kindOf cs x) 0))
 
 -- a turn from w to r, by its characters
 pub data Turn (cs : List Cell) (after : List ℕ) (w : Walk) (next : List ℕ) (r : Walk) : List ℕ → Type 0 where

@@ -7,13 +7,14 @@ ghost use Rattle.text.specs.Limits.{levels, textMost};
 ghost use Rattle.table.specs.View.{view, Table, IsCell};
 ghost use Rattle.writing.specs.Put.{Put, PutShut, PutPass, PutTurn, Roomy};
 ghost use Rattle.writing.specs.Steps.{comma, shutAt, passAt, MayTurn};
-ghost use Rattle.writing.specs.Measures.{Stands, Fitting, textAt};
+ghost use Rattle.pool.specs.Operations.{Stands};
+ghost use Rattle.writing.specs.Measures.{Fitting, textAt};
 use crate::atoms;
 use crate::walk;
-use crate::walk::Kept;
 use crate::walk::Walk;
 use scan::limits::Level;
 use table::Shape;
+use walks::Kept;
 
 // "," before a further element: the last character so far.
 fn part(out: &mut [u8], end: usize, w: Walk)

@@ -2,20 +2,19 @@
 // Where it stands is a cell, the number of open levels and that of the characters passed; each open level has the cell
 // with which it goes on kept.
 ghost use mathlib.Core.Path.{_≡_};
-ghost use mathlib.Core.Bool.{_&&_};
-ghost use mathlib.Core.Logic.{_≢_};
 ghost use Prim.Native.Nat.{_<_, _≤_};
-ghost use lib.Dec.{leb};
 ghost use lib.ListN.{length};
 ghost use Rattle.answers.specs.Answers.{DONE};
 ghost use Rattle.text.specs.Limits.{levels, textMost};
 ghost use Rattle.table.specs.View.{view, Table, IsCell};
-ghost use Rattle.writing.specs.Steps.{started, comma, shutAt, passAt, opensAt, Opened, MayTurn, Turns};
-ghost use Rattle.writing.specs.Measures.{Stands, measured, Measures};
+ghost use Rattle.writing.specs.Steps.{started, comma, shutAt, passAt, Opened, MayTurn, Turns};
+ghost use Rattle.pool.specs.Operations.{Stands};
+ghost use Rattle.writing.specs.Measures.{measured, Measures};
 use crate::atoms;
 use answers::Answer;
 use scan::limits::Level;
 use table::Shape;
+use walks::Kept;
 
 // Where the next character comes from: a cell, or ")" at 0.
 pub struct Walk {
@@ -23,9 +22,6 @@ pub struct Walk {
     pub depth: usize,
     pub size: usize,
 }
-
-// The cell with which each open level goes on.
-pub type Kept = [usize; Level::MOST as usize];
 
 // What measuring says: DONE and the size of the text, or DEEP or OUTPUT.
 pub struct Measured {
@@ -121,22 +117,6 @@ pub fn open(s: Shape, t: &[u32], after: &mut Kept, w: Walk) -> Walk
     }
 }
 
-// Whether the next character opens level 201.
-fn too_deep(s: Shape, t: &[u32], w: Walk) -> bool
-    requires { ⌜ Table s (now t) ⌝ }
-    requires { ⌜ (w .at ≢ 0 → IsCell s (w .at)) ⌝ }
-    ensures { λ r. ⌜ r ≡ (leb levels (w .depth) && opensAt (view s (now (t .entry)) .cells) (w .at)) ⌝ }
-{
-    if w.depth < Level::MOST as usize {
-        return false;
-    }
-    let x = w.at;
-    if x == 0 {
-        return false;
-    }
-    table::kind_of(s, t, x) != 0
-}
-
 // The next character, or the digits of an atom, with "," if an element follows.
 fn step(s: Shape, t: &[u32], after: &mut Kept, w: Walk) -> Walk
     requires { ⌜ Table s (now t) ⌝ }
@@ -166,7 +146,7 @@ pub fn measure(s: Shape, t: &[u32], x: usize, usable: usize) -> Measured
     let mut after = [0; Level::MOST as usize];
     let mut w = Walk::started(x);
     while w.depth > 0 {
-        if too_deep(s, t, w) {
+        if walks::too_deep(s, t, w.at, w.depth) {
             return Measured::refused(Answer::DEEP);
         }
         w = step(s, t, &mut after, w);

@@ -31,7 +31,7 @@ write-open-requires c κs = entered (c .before .before .before) .provided
 returns : tie.Need-returns
 returns c =
     let after-enter = c .before .before .before .before in
-    entry-refused _ _ _ _ _ (turned-away _ _ _ _ (after-enter .enter .ensures) (c .before .before .entry .given .1)) (c .refused .ensures)
+    entry-refused _ _ _ _ _ _ (turned-away _ _ _ _ (after-enter .enter .ensures) (c .before .before .entry .given .1)) (c .refused .ensures)
 
 same-length : tie.Need-same-length
 same-length c = search needs
@@ -43,7 +43,7 @@ returns-2 : tie.Need-returns-2
 returns-2 c =
     let after-write = c .before .before .before .before in
     let after-entry = after-write .before .before .before .before in
-    of-form _ _ _ _ (entered after-entry .form) (after-write .write-open .ensures)
+    of-form _ _ _ _ _ (entered after-entry .form) (after-write .write-open .ensures)
 
 pub write-form-spec : {M : Type 1} → statement M
 write-form-spec =

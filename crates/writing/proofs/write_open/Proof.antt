@@ -16,7 +16,7 @@ returns : tie.Need-returns
 returns c =
     let after-holders = c .before .before in
     let start = after-holders .before .before .before .before in
-    no-holder _ _ _ (start .pre) (omega (arith, c .before .if1 .taken, after-holders .holders .ensures)) (c .refused .ensures)
+    no-holder (start .args .b) _ _ _ (start .pre) (omega (arith, c .before .if1 .taken, after-holders .holders .ensures)) (c .refused .ensures)
 
 is-sound-requires : tie.Need-is-sound-requires
 is-sound-requires c κs = search needs
@@ -32,7 +32,7 @@ returns-2 c =
     let after-is-sound = c .before .before .before .before in
     let else1 = after-is-sound .before .before in
     let start = else1 .before .before .before .before .before in
-    not-sound _ _ _ (start .pre) (omega (arith, else1 .if1 .left, else1 .before .holders .ensures)) (after-is-sound .is-sound .ensures) (c .before .if2 .taken)
+    not-sound (start .args .b) _ _ _ (start .pre) (omega (arith, else1 .if1 .left, else1 .before .holders .ensures)) (after-is-sound .is-sound .ensures) (c .before .if2 .taken)
     (c .refused2 .ensures)
 
 holder-of-requires : tie.Need-holder-of-requires
@@ -59,7 +59,7 @@ returns-3 c =
     let after-is-sound = else2 .before .before .before in
     let else1 = after-is-sound .before .before in
     let start = else1 .before .before .before .before .before in
-    accepted _ _ _ (start .pre) (omega (arith, else1 .if1 .left, else1 .before .holders .ensures)) (after-is-sound .is-sound .ensures) (else2 .if2 .left)
+    accepted (start .args .b) _ _ _ (start .pre) (omega (arith, else1 .if1 .left, else1 .before .holders .ensures)) (after-is-sound .is-sound .ensures) (else2 .if2 .left)
     (after-list .before .before .holder-of .ensures .0) (after-list .write-list .ensures _)
 
 pub write-open-spec : {M : Type 1} → statement M

@@ -10,7 +10,8 @@ use Rattle.text.specs.laws.OpenLists.{opens-body}
 use Rattle.text.specs.Writing.{judged}
 use Rattle.writing.specs.declared.walk.Measured.{Measured}
 use Rattle.writing.specs.declared.walk.Walk.{Walk}
-use Rattle.writing.specs.Measures.{listAt, textAt, measured, Measures}
+use Rattle.pool.specs.Operations.{listAt}
+use Rattle.writing.specs.Measures.{textAt, measured, Measures}
 use Rattle.writing.specs.Walking.{Walking}
 use Rattle.writing.specs.laws.WalkingLaws.{ended}
 

@@ -20,7 +20,7 @@ put-one xs at end b l h = record {
 }
 
 -- nothing, and one after another
-put-none : (xs : List ℕ) (at end : ℕ) → Put xs xs at end []
+pub put-none : (xs : List ℕ) (at end : ℕ) → Put xs xs at end []
 put-none xs at end =
     let z : at + 0 ≡ at = omega arith in
     record { text = ap (λ (k : ℕ). take k xs) z ∙ sym (append-nil (take at xs)); behind = refl; room = refl }

@@ -16,7 +16,8 @@ use Rattle.text.specs.laws.OpenLists.{opens-body}
 use Rattle.text.specs.laws.TextLaws.{decide}
 use Rattle.text.specs.Writing.{judged}
 use Rattle.writing.specs.declared.walk.Walk.{Walk}
-use Rattle.writing.specs.Measures.{listAt, textAt, Stands, Fitting}
+use Rattle.pool.specs.Operations.{listAt, Stands}
+use Rattle.writing.specs.Measures.{textAt, Fitting}
 use Rattle.writing.specs.Put.{Put, Roomy}
 use Rattle.writing.specs.laws.PutLaws.{put-one}
 use Rattle.writing.specs.Putting.{Putting}

@@ -1,15 +1,14 @@
 -- The walk begins behind the outermost "(", goes on by a turn as long as its characters fit, and ends with the text.
-use Prim.Native.Nat.{ℕ, _+_, _-_, _≤_, _<_}
+use Prim.Native.Nat.{ℕ, _-_, _≤_, _<_}
 use mathlib.Core.Path.{_≡_, refl, sym, ap, subst, _∙_}
 use mathlib.Core.Logic.{_≢_}
 use mathlib.Core.List.{List, [], _∷_, _++_, append-nil}
 use native.Mathlib.Omega.{arith}
-use lib.ListN.{length, drop, replicate, length-append, length-drop, length-set}
-use lib.Seq.{drop-drop, drop-append-seam, getD-set-other}
+use lib.ListN.{length, getD, drop, replicate, length-append, length-drop}
+use lib.Seq.{drop-drop, drop-append-seam}
 use borrow.Author.Tests.{ne-eqb, le-leb, lt-leb}
 use Rattle.answers.specs.Answers.{DONE, DEEP, OUTPUT}
 use Rattle.lists.specs.Lst.{Lst}
-use Rattle.pool.specs.laws.Edit.{live-cell}
 use Rattle.pool.specs.Pool.{Cell, kindOf, elemOf, nextOf}
 use Rattle.table.specs.declared.Shape.{Shape}
 use Rattle.table.specs.View.{IsCell}
@@ -17,13 +16,15 @@ use Rattle.text.specs.Limits.{levels, textMost}
 use Rattle.text.specs.ListText.{textOf}
 use Rattle.text.specs.laws.OpenLists.{body, opens-body}
 use Rattle.text.specs.Writing.{judged}
+use Rattle.walks.specs.laws.LevelLaws.{begin-levels, in-pool, shut-level, pass-level, open-level}
 use Rattle.writing.specs.declared.walk.Walk.{Walk}
 use Rattle.writing.specs.Numeral.{numeral}
 use Rattle.writing.specs.laws.NumeralLaws.{some-digits}
 use Rattle.writing.specs.Steps.{comma, started, shutAt, passAt, openAt, keptAt, Turn, shuts, passes, opens, MayTurn}
-use Rattle.writing.specs.Measures.{listAt, textAt, Stands}
-use Rattle.writing.specs.Walking.{rest, Here, Walking, Turned}
-use Rattle.writing.specs.laws.TurnLaws.{goes-shut, goes-pass, goes-open, opening, live-here, judges-shut, judges-pass, judges-open}
+use Rattle.pool.specs.Operations.{listAt, Stands}
+use Rattle.writing.specs.Measures.{textAt}
+use Rattle.writing.specs.Walking.{rest, Walking, Turned}
+use Rattle.writing.specs.laws.TurnLaws.{shut-text, pass-text, open-text, judges-shut, judges-pass, judges-open}
 
 pub begins : (cs : List Cell) (x u : ℕ) (w : Walk) → Stands cs x → 1 ≤ u → w ≡ started x → Walking cs (textAt cs x) u (replicate levels 0) w
 begins cs x u w h l q =
@@ -31,7 +32,7 @@ begins cs x u w h l q =
     let e : textOf k ≡ 40 ∷ (body k ++ []) = opens-body k ∙ ap (λ (b : List ℕ). 40 ∷ b) (sym (append-nil (body k))) in
     subst (Walking cs (textAt cs x) u (replicate levels 0)) (sym q) (record {
       opened = k ∷ [];
-      stands = record { deep = refl; here = (h, tt); floor = refl; wide = refl; low = omega arith };
+      stands = begin-levels cs x h;
       is = ap (drop 1) e;
       within = omega (arith, ap length e);
       short = l;
@@ -41,52 +42,41 @@ begins cs x u w h l q =
 module _ (cs : List Cell) (t : List ℕ) (u : ℕ) (after : List ℕ) (w : Walk) (g : Walking cs t u after w) (some : 1 ≤ w .depth) where
   shut-turned : w .at ≡ 0 → Turned cs t after w (shutAt after w) (41 ∷ comma (shutAt after w .at))
   shut-turned z =
-      let l = g .stands in
-      let h : Here cs after 0 (g .opened) = subst (λ (x : ℕ). Here cs after x (g .opened)) z (l .here) in
+      let s = shut-level cs after (w .at) (w .depth) (g .opened) (g .stands) some z in
       let x : ℕ = shutAt after w .at in
-      let (next, deep, here, text) = goes-shut cs after (g .opened) (w .depth) x (l .deep) some h (l .floor) refl in
       record {
-        opened = next;
-        stands = record { deep = deep; here = here; floor = l .floor; wide = l .wide; low = omega (arith, l .low) };
+        opened = s .outer;
+        stands = s .now;
         more = omega arith;
         size = omega arith;
-        text = g .is ∙ text;
-        judges = judges-shut (w .depth) x (rest next);
+        text = g .is ∙ ap rest (s .was) ∙ shut-text cs after x (w .depth - 1) (s .outer) (s .now) (λ e. ap (λ (k : ℕ). getD after k 0) e ∙ g .stands .floor);
+        judges = judges-shut (w .depth) x (rest (s .outer));
       }
 
   pass-turned : w .at ≢ 0 → kindOf cs (w .at) ≡ 0 → Turned cs t after w (passAt cs w) (numeral (elemOf cs (w .at)) ++ comma (passAt cs w .at))
   pass-turned n k =
-      let l = g .stands in
+      let s = pass-level cs after (w .at) (w .depth) (g .opened) (g .stands) some n k in
       let x : ℕ = nextOf cs (w .at) in
       let v : ℕ = elemOf cs (w .at) in
-      let (next, deep, here, text) = goes-pass cs after (g .opened) (w .depth) (w .at) (l .deep) some (l .here) n k in
       record {
-        opened = next;
-        stands = record { deep = deep; here = here; floor = l .floor; wide = l .wide; low = l .low };
+        opened = s .more ∷ s .outer;
+        stands = s .now;
         more = omega (arith, length-append (numeral v) (comma x), some-digits v);
         size = omega (arith, length-append (numeral v) (comma x));
-        text = g .is ∙ text;
-        judges = judges-pass (w .depth) v x (rest next);
+        text = g .is ∙ ap rest (s .was) ∙ pass-text cs x v (s .more) (s .outer) (s .now .here .0 .0);
+        judges = judges-pass (w .depth) v x (rest (s .more ∷ s .outer));
       }
 
   open-turned : w .at ≢ 0 → kindOf cs (w .at) ≢ 0 → w .depth < levels → Turned cs t (keptAt cs after w) w (openAt cs w) (40 ∷ [])
   open-turned n k r =
-      let l = g .stands in
-      let y : ℕ = nextOf cs (w .at) in
-      let (next, deep, here, text) = goes-open cs after (g .opened) (w .depth) (w .at) (l .deep) some (omega (arith, l .wide)) (l .here) n k in
+      let s = open-level cs after (w .at) (w .depth) (g .opened) (g .stands) some n k in
       record {
-        opened = next;
-        stands = record {
-          deep = deep;
-          here = here;
-          floor = getD-set-other after (w .depth) 0 y 0 (λ e. omega arith) ∙ l .floor;
-          wide = length-set after (w .depth) y ∙ l .wide;
-          low = omega arith;
-        };
+        opened = s .inner ∷ (s .more ∷ s .outer);
+        stands = s .now r;
         more = omega arith;
         size = refl;
-        text = g .is ∙ text;
-        judges = judges-open (w .depth) (rest next) r;
+        text = g .is ∙ ap rest (s .was) ∙ open-text (s .inner) (s .more) (s .outer);
+        judges = judges-open (w .depth) (rest (s .inner ∷ (s .more ∷ s .outer))) r;
       }
 
   pub turned : (next : List ℕ) (r : Walk) (bs : List ℕ) → (w .at ≢ 0 → kindOf cs (w .at) ≢ 0 → w .depth < levels) → Turn cs after w next r bs
@@ -129,12 +119,12 @@ module _ (cs : List Cell) (t : List ℕ) (u : ℕ) (after : List ℕ) (w : Walk)
 
   pub too-deep : w .at ≢ 0 → kindOf cs (w .at) ≢ 0 → levels ≤ w .depth → judged u 0 t ≡ DEEP
   too-deep n k h =
-      let (tail, e) = opening cs after (g .opened) (w .at) (omega (arith, g .stands .deep)) (g .stands .here) n k in
-      g .judges ∙ ap (judged (u - w .size) (w .depth)) e ∙ rw (le-leb levels (w .depth) h)
+      let s = open-level cs after (w .at) (w .depth) (g .opened) (g .stands) some n k in
+      g .judges ∙ ap (judged (u - w .size) (w .depth)) (ap rest (s .was) ∙ open-text (s .inner) (s .more) (s .outer)) ∙ rw (le-leb levels (w .depth) h)
 
   pub at-cell : (s : Shape) → length cs ≡ s .cells → w .at ≢ 0 → IsCell s (w .at)
   at-cell s m n =
-      let q = live-cell cs (w .at) (live-here cs after (g .opened) (w .at) (omega (arith, g .stands .deep)) (g .stands .here) n) in
+      let q = in-pool cs after (w .at) (w .depth) (g .opened) (g .stands) some n in
       record { low = q .0; high = omega (arith, q .1, m) }
 
   pub may-turn : (s : Shape) → length cs ≡ s .cells → u ≤ textMost → (w .at ≢ 0 → kindOf cs (w .at) ≢ 0 → w .depth < levels) → MayTurn s cs w

@@ -11,7 +11,7 @@ use Rattle.table.specs.View.{view}
 use Rattle.text.specs.Limits.{levels}
 use Rattle.writing.specs.Measures.{textAt}
 use Rattle.writing.specs.Walking.{Walking, Turned}
-use Rattle.writing.specs.laws.StepLaws.{full, roomy}
+use Rattle.walks.specs.laws.DeepLaws.{full, roomy}
 use Rattle.writing.specs.laws.WalkingLaws.{begins, turned, goes-on, overflows, too-deep, at-cell, may-turn}
 use Rattle.writing.specs.laws.MeasureLaws.{no-room, refuses, sizes}
 use Rattle.writing.proofs.walk.measure.Statement.{statement}
