@@ -1,0 +1,10 @@
+pub mod Backward
+pub mod OpenLists
+pub mod Listed
+pub mod Atoms
+pub mod Walking
+pub mod Laid
+pub mod Passing
+pub mod Turned
+pub mod Straight
+pub mod laws

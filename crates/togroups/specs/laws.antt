@@ -1,0 +1,13 @@
+pub mod FromScan
+pub mod Descent
+pub mod NoLonger
+pub mod Judging
+pub mod ListedLaws
+pub mod AtomLaws
+pub mod StepLaws
+pub mod LaidLaws
+pub mod PassLaws
+pub mod StraightLaws
+pub mod PutLaws
+pub mod TurnLaws
+pub mod MoveLaws
