@@ -14,6 +14,7 @@ use Rattle.table.specs.View.{four, wordCount}
 use Rattle.calls.specs.SetUp.{Given, setUp}
 use Rattle.calls.specs.Entry.{workWords, shown}
 use Rattle.calls.specs.Run.{Ran, ran}
+use Rattle.groups.specs.declared.Stored.the-variants.{Text}
 use Rattle.calls.specs.Read.{Read, readIn}
 use Rattle.calls.specs.Write.{Write, writeOut}
 use Rattle.lists.specs.Lst.{Lst}
@@ -70,7 +71,7 @@ operated r =
 
 -- READ: the text is filled to a full record
 abbrev pub readingOf : List ℕ → ℕ → List ℕ → Read
-readingOf ts h xs = readIn ts (replicate workMost 0) h (filled xs)
+readingOf ts h xs = readIn Text ts (replicate workMost 0) h (filled xs)
 
 abbrev pub took : Read → Told
 took r = record { words = r .table; answer = r .answer; kind = nothingKind; value = 0 }
@@ -78,7 +79,7 @@ took r = record { words = r .table; answer = r .answer; kind = nothingKind; valu
 -- WRITE is lent room for the longest text; where it is accepted the text follows on a line of its own, without the
 -- fill
 abbrev pub writingOf : List ℕ → ℕ → Write
-writingOf ts h = writeOut ts (replicate workMost 0) h (replicate textMost 0)
+writingOf ts h = writeOut Text ts (replicate workMost 0) h (replicate textMost 0)
 
 abbrev pub textLine : ℕ → Lst → List ℕ
 textLine answer l = cond (eqb answer DONE) (textOf l ++ (lineFeed ∷ [])) []

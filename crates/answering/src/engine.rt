@@ -11,6 +11,7 @@ ghost use Rattle.answering.specs.Kept.{lineRoom, Says};
 use crate::texts::fill_text;
 use answers::Answer;
 use answers::Kind;
+use groups::Stored;
 use table::Shape;
 
 // The number of words in use, and answer, kind and value.
@@ -86,7 +87,7 @@ pub fn read_text(
         ⌝ }
 {
     let n = fill_text(line, at, page);
-    let r = reading::read(&mut table[0..used], work, h, &page[0..n]);
+    let r = reading::read(Stored::Text, &mut table[0..used], work, h, &page[0..n]);
     Said {
         used,
         answer: r.answer,

@@ -8,6 +8,7 @@ ghost use Rattle.answering.specs.Session.{workMost};
 ghost use Rattle.answering.specs.Kept.{lineRoom, Prints, Texts};
 ghost use Rattle.answering.specs.Trim.{trimmed};
 use answers::Answer;
+use groups::Stored;
 use lines::record::fill_record;
 use records::Record;
 
@@ -44,7 +45,7 @@ pub fn write_text(table: &[u32], work: &mut [u32], h: u32, room: &mut [u8]) -> T
     requires { ⌜ (length (now work) ≡ workMost) × (length (now room) ≡ lineRoom) ⌝ }
     ensures { λ r. ⌜ Texts (now (table .entry)) h r (now (room .exit)) ⌝ }
 {
-    let r = writing::write(table, work, h, &mut room[0..Record::TEXT]);
+    let r = writing::write(Stored::Text, table, work, h, &mut room[0..Record::TEXT]);
     if r.answer != Answer::DONE {
         return Texted {
             answer: r.answer,

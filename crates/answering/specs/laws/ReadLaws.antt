@@ -16,6 +16,7 @@ use Rattle.text.specs.Marks.{listIn}
 use Rattle.text.specs.Text.{sizeFault, verdict}
 use Rattle.calls.specs.Contracts.{Reads}
 use Rattle.calls.specs.Entry.{workWords, entryFault, noHolder, shown, unsound, stored, used as clearedWork}
+use Rattle.groups.specs.declared.Stored.the-variants.{Text}
 use Rattle.calls.specs.Read.{Read, notRead, readIn, readingIn}
 use Rattle.lines.specs.Printed.{filled}
 use Rattle.answering.specs.Session.{nothingKind, workMost, readingOf, took}
@@ -42,7 +43,7 @@ tried a b c d e f g n k ts h xs ws =
     (notRead k ts ws)))
     (notRead n ts ws)
 
-any-words : (ts ws us xs : List ℕ) (h : ℕ) → length ws ≡ length us → Same (readIn ts ws h xs) (readIn ts us h xs)
+any-words : (ts ws us xs : List ℕ) (h : ℕ) → length ws ≡ length us → Same (readIn Text ts ws h xs) (readIn Text ts us h xs)
 unfolding readingIn
 any-words ts ws us xs h l =
     rw l (go (eqb (entryFault workWords Four ts (length us)) DONE) (noHolder Four ts h) (eqb (sizeFault xs) DONE) (unsound Four ts)
@@ -63,12 +64,12 @@ any-words ts ws us xs h l =
 
 -- a part of k words, and one of m bytes, that are lent start at 0
 pub reads : (ts ws vs front rest xs text : List ℕ) (h used k m : ℕ) (o : Outcome) → k ≡ used → length front ≡ used → length ws ≡ workMost → take m text ≡ filled xs
-    → Reads o front vs (readIn (take k ts) ws h (take m text))
+    → Reads o front vs (readIn Text (take k ts) ws h (take m text))
     → Says (took (readingOf (take used ts) h xs)) (record { used = used; answer = o .answer; kind = nothingKind; value = 0 }) (front ++ rest)
 reads ts ws vs front rest xs text h used k m o e l w t s = rw (sym e) (
     let us : List ℕ = replicate workMost 0 in
     let q = any-words (take k ts) ws us (filled xs) h (w ∙ sym (length-replicate {A = ℕ} workMost 0)) in
-    let r : readIn (take k ts) ws h (take m text) ≡ readIn (take k ts) ws h (filled xs) = ap (readIn (take k ts) ws h) t in
+    let r : readIn Text (take k ts) ws h (take m text) ≡ readIn Text (take k ts) ws h (filled xs) = ap (readIn Text (take k ts) ws h) t in
     record {
       words = take-at front rest k (l ∙ sym e) ∙ s .table ∙ ap (λ (x : Read). x .table) r ∙ q .table;
       fits = omega (arith, length-append front rest);

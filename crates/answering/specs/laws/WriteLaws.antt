@@ -17,6 +17,7 @@ use Rattle.text.specs.Limits.{textMost}
 use Rattle.text.specs.ListText.{textOf, written, fill}
 use Rattle.text.specs.Writing.{usable, judged}
 use Rattle.calls.specs.Entry.{workWords, entryFault, noHolder, shown, unsound, used, over}
+use Rattle.groups.specs.declared.Stored.the-variants.{Text}
 use Rattle.calls.specs.Write.{Write, notWritten, writeOut, writingIn}
 use Rattle.answers.specs.declared.Outcome.{Outcome}
 use Rattle.calls.specs.Contracts.{Writes as Written}
@@ -42,7 +43,7 @@ tried a b c k n l ws us out =
     (notWritten k ws out)
 
 -- neither the work space's words nor the bytes lent matter to the answer
-pub any-lent : (ts ws us out texts : List ℕ) (h : ℕ) → length ws ≡ length us → length out ≡ length texts → writeOut ts ws h out .answer ≡ writeOut ts us h texts .answer
+pub any-lent : (ts ws us out texts : List ℕ) (h : ℕ) → length ws ≡ length us → length out ≡ length texts → writeOut Text ts ws h out .answer ≡ writeOut Text ts us h texts .answer
 unfolding writingIn
 any-lent ts ws us out texts h e q =
     rw (e, q) (go (eqb (entryFault workWords Four ts (length us)) DONE) (noHolder Four ts h) (unsound Four ts)
@@ -70,7 +71,7 @@ pub record Wrote (l : Lst) (out : List ℕ) (w : Write) : Type 0 where
   pub count : w .count ≡ length (written l)
   pub output : w .output ≡ over (written l) out
 
-pub written-whole : (ts ws out : List ℕ) (h : ℕ) → writeOut ts ws h out .answer ≡ DONE → Wrote (listOf (shown Four ts) h) out (writeOut ts ws h out)
+pub written-whole : (ts ws out : List ℕ) (h : ℕ) → writeOut Text ts ws h out .answer ≡ DONE → Wrote (listOf (shown Four ts) h) out (writeOut Text ts ws h out)
 unfolding writingIn
 written-whole ts ws out h =
     go (eqb (entryFault workWords Four ts (length ws)) DONE) refl (noHolder Four ts h) (unsound Four ts)
@@ -101,7 +102,7 @@ pub record Writes (ts : List ℕ) (h : ℕ) (o : Outcome) (old new : List ℕ) :
   pub text : o .answer ≡ DONE → (o .count ≡ length (written (listOf (shown Four ts) h))) × (new ≡ over (written (listOf (shown Four ts) h)) old)
 
 pub writes : (ts ws vs old new : List ℕ) (h : ℕ) (o : Outcome) → length ws ≡ workMost → length old ≡ textMost
-    → Written o vs new (writeOut ts ws h old) → Writes ts h o old new
+    → Written o vs new (writeOut Text ts ws h old) → Writes ts h o old new
 writes ts ws vs old new h o e q p =
     let us : List ℕ = replicate workMost 0 in
     let texts : List ℕ = replicate textMost 0 in

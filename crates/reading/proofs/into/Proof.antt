@@ -2,14 +2,13 @@
 use mathlib.Core.Path.{sym, _∙_}
 use native.Mathlib.Omega.{arith}
 use borrow.Author.Needs.{needs}
-use Rattle.text.specs.laws.SizeLaws.{its-size}
-use Rattle.reading.specs.laws.ReadLaws.{Scans, occupied, faulty, no-room, taken, room, reads}
+use Rattle.reading.specs.laws.ReadLaws.{Scans, occupied, faulty, no-room, good, room, reads}
 use Rattle.reading.proofs.into.Statement.{statement}
 use Rattle.reading.proofs.into.Tie as tie
 
 scans : (c : tie.After-scan) →
     let after-holder-of = c .before .before in
-    Scans (after-holder-of .before .before .before .before .args .s) (after-holder-of .before .before .before .before .args .t .now) (after-holder-of .before .before .before .before .args .h) (after-holder-of .before .before .before .before .args .text .now) (c .scan .result)
+    Scans (after-holder-of .before .before .before .before .args .b) (after-holder-of .before .before .before .before .args .s) (after-holder-of .before .before .before .before .args .t .now) (after-holder-of .before .before .before .before .args .h) (after-holder-of .before .before .before .before .args .bytes .now) (c .scan .result)
 scans c =
     let after-holder-of = c .before .before in
     let start = after-holder-of .before .before .before .before in
@@ -28,10 +27,10 @@ returns : tie.Need-returns
 returns c =
     let after-holder-of = c .before .before in
     let start = after-holder-of .before .before .before .before in
-    λ ws. occupied (start .pre .0) (start .args .h) (start .args .text .now) ws (λ q. c .before .if1 .taken (c .before .before .holder-of .ensures .0 ∙ q)) (c .refused .ensures)
+    λ ws. occupied (start .args .b) (start .pre .0) (start .args .h) (start .args .bytes .now) ws (λ q. c .before .if1 .taken (c .before .before .holder-of .ensures .0 ∙ q)) (c .refused .ensures)
 
 scan-requires : tie.Need-scan-requires
-scan-requires c κs = its-size _ (c .before .before .before .before .before .pre .1 .1 .1 .1)
+scan-requires c κs = c .before .before .before .before .before .pre .1 .1 .1 .1
 
 refused-requires-2 : tie.Need-refused-requires-2
 refused-requires-2 c κs = search needs
@@ -65,7 +64,7 @@ build-requires c κs =
     let start = after-holder-of .before .before .before .before in
     let k = scans (c .before .before .before .before .before) in
     let well = c .before .before .before .if2 .left in
-    (start .pre .0, (start .pre .1 .0, (start .pre .1 .1 .0, (taken k well, room k well (omega (arith, c .before .if3 .left, start .pre .1 .1 .1 .0))))))
+    (start .pre .0, (start .pre .1 .0, (start .pre .1 .1 .0, (good k well, room k well (omega (arith, c .before .if3 .left, start .pre .1 .1 .1 .0))))))
 
 done-requires : tie.Need-done-requires
 done-requires c κs = search needs

@@ -34,7 +34,7 @@ same-length c = search needs
 returns : tie.Need-returns
 returns c =
     let after-enter = c .before .before .before .before in
-    entry-refused _ _ _ _ _ (turned-away _ _ _ _ (after-enter .enter .ensures) (c .before .before .entry .given .1)) (c .refused .ensures)
+    entry-refused _ _ _ _ _ _ (turned-away _ _ _ _ (after-enter .enter .ensures) (c .before .before .entry .given .1)) (c .refused .ensures)
 
 same-length-2 : tie.Need-same-length-2
 same-length-2 c = search needs
@@ -46,7 +46,7 @@ returns-2 : tie.Need-returns-2
 returns-2 c =
     let after-read = c .before .before .before .before in
     let after-entry = after-read .before .before .before .before in
-    of-form _ _ _ _ (entered after-entry .form) (after-read .read-open .ensures)
+    of-form _ _ _ _ _ (entered after-entry .form) (after-read .read-open .ensures)
 
 pub read-form-spec : {M : Type 1} → statement M
 read-form-spec =

@@ -5,7 +5,7 @@ use native.Mathlib.Omega.{arith}
 use borrow.Author.Tests.{not-false}
 use borrow.Author.Needs.{needs}
 use Rattle.answers.specs.Answers.{DONE}
-use Rattle.text.specs.Text.{sizeFault}
+use Rattle.groups.specs.Stored.{sizeFault}
 use Rattle.reading.specs.laws.ReadLaws.{no-holder, wrong-size, not-sound, all-passed}
 use Rattle.reading.proofs.read_open.Statement.{statement}
 use Rattle.reading.proofs.read_open.Tie as tie
@@ -19,7 +19,7 @@ held c = omega (arith, c .if1 .left, c .before .holders .ensures)
 sized : (c : tie.Else2) →
     let after-holders = c .before .before .before in
     let start = after-holders .before .before .before .before in
-    sizeFault (start .args .text .now) ≡ DONE
+    sizeFault (start .args .b) (start .args .bytes .now) ≡ DONE
 sized c = sym (c .before .size-fault .ensures) ∙ c .if2 .left
 
 holders-requires : tie.Need-holders-requires
@@ -32,7 +32,7 @@ returns : tie.Need-returns
 returns c =
     let after-holders = c .before .before in
     let start = after-holders .before .before .before .before in
-    no-holder _ _ _ (start .pre) (omega (arith, c .before .if1 .taken, after-holders .holders .ensures)) (c .refused .ensures)
+    no-holder _ _ _ _ (start .pre) (omega (arith, c .before .if1 .taken, after-holders .holders .ensures)) (c .refused .ensures)
 
 size-fault-requires : tie.Need-size-fault-requires
 size-fault-requires c κs = search needs
@@ -44,7 +44,7 @@ returns-2 : tie.Need-returns-2
 returns-2 c =
     let else1 = c .before .before .before in
     let start = else1 .before .before .before .before .before in
-    wrong-size _ _ _ (start .pre) (held else1) (c .before .before .size-fault .ensures) (c .before .if2 .taken) (c .refused2 .ensures)
+    wrong-size _ _ _ _ (start .pre) (held else1) (c .before .before .size-fault .ensures) (c .before .if2 .taken) (c .refused2 .ensures)
 
 examine-requires : tie.Need-examine-requires
 examine-requires c κs = search needs
@@ -64,7 +64,7 @@ returns-3 c =
     let else2 = after-examine .before .before .before in
     let else1 = else2 .before .before in
     let start = else1 .before .before .before .before .before in
-    not-sound _ _ _ (start .pre) (held else1) (sized else2) (after-examine .examine .ensures .decided) (c .before .if3 .taken) (c .refused3 .ensures)
+    not-sound _ _ _ _ (start .pre) (held else1) (sized else2) (after-examine .examine .ensures .decided) (c .before .if3 .taken) (c .refused3 .ensures)
 
 into-requires : tie.Need-into-requires
 into-requires c κs =
@@ -90,7 +90,7 @@ returns-4 c =
     let else2 = after-examine .before .before .before in
     let else1 = else2 .before .before in
     let start = else1 .before .before .before .before .before in
-    all-passed _ _ _ (start .pre) (held else1) (sized else2) (after-examine .examine .ensures .decided) (else3 .if3 .left) (after-into .into .ensures _)
+    all-passed _ _ _ _ (start .pre) (held else1) (sized else2) (after-examine .examine .ensures .decided) (else3 .if3 .left) (after-into .into .ensures _)
 
 pub read-open-spec : {M : Type 1} → statement M
 read-open-spec =

@@ -54,7 +54,7 @@ returns c =
     let z : a .used - 0 ≡ a .used = omega arith in
     let y : n - 0 ≡ n = omega arith in
     reads (a .table .now) _ _ _ _ (drop (a .at) (a .line .now)) _ _ _ (a .used - 0) (n - 0) _ z
-    (after-read .read .kept .0 ∙ length-take-le (a .used - 0) (a .table .now) (omega arith) ∙ z)
+    (after-read .read .kept .1 .0 ∙ length-take-le (a .used - 0) (a .table .now) (omega arith) ∙ z)
     (start .pre .1 .1) (ap (λ (j : ℕ). take j (after-fill-text .fill-text .last .1 .1 .0)) y ∙ after-fill-text .fill-text .ensures .bytes)
     (after-read .read .ensures)
 

@@ -33,17 +33,17 @@ abbrev list : tie.Start → Lst
 list start = listOf (shown Four (start .args .table .now)) (start .args .h)
 
 -- what the call of `write` gives
-told : (c : tie.After-write) → Writes (start-of c .args .table .now) (start-of c .args .h) (c .write .result) (old (start-of c)) (c .write .last .1 .1 .1 .0)
-told c = writes _ _ (c .write .last .1 .0) _ _ _ _ (start-of c .pre .0) (old-long (start-of c)) (c .write .ensures)
+told : (c : tie.After-write) → Writes (start-of c .args .table .now) (start-of c .args .h) (c .write .result) (old (start-of c)) (c .write .last .1 .1 .1 .1 .0)
+told c = writes _ _ (c .write .last .1 .1 .0) _ _ _ _ (start-of c .pre .0) (old-long (start-of c)) (c .write .ensures)
 
-new-long : (c : tie.After-write) → length (c .write .last .1 .1 .1 .0) ≡ textMost
-new-long c = c .write .kept .1 .1 .1 .0 ∙ old-long (start-of c)
+new-long : (c : tie.After-write) → length (c .write .last .1 .1 .1 .1 .0) ≡ textMost
+new-long c = c .write .kept .1 .1 .1 .1 .0 ∙ old-long (start-of c)
 
 -- where it is done: the text is there, and within its room
 text : (c : tie.Else1) →
     let after-write = after-write-of c in
     let start = start-of after-write in
-    (after-write .write .result .count ≡ length (written (list start))) × (after-write .write .last .1 .1 .1 .0 ≡ over (written (list start)) (old start))
+    (after-write .write .result .count ≡ length (written (list start))) × (after-write .write .last .1 .1 .1 .1 .0 ≡ over (written (list start)) (old start))
 text c = told (after-write-of c) .text (c .if1 .left)
 
 room : (c : tie.Else1) → after-write-of c .write .result .count ≤ textMost
@@ -89,10 +89,10 @@ slice-write-room c =
     let else1 = c .before .before .before in
     let after-write = after-write-of else1 in
     let start = start-of after-write in
-    line-place (start .args .room .now) (after-write .write .last .1 .1 .1 .0) _ (start .pre .1) (new-long after-write) (omega (arith, room else1))
+    line-place (start .args .room .now) (after-write .write .last .1 .1 .1 .1 .0) _ (start .pre .1) (new-long after-write) (omega (arith, room else1))
 
-add-t10 : tie.Need-add-t10
-add-t10 c = omega (arith, room (c .before .before .before))
+add-t11 : tie.Need-add-t11
+add-t11 c = omega (arith, room (c .before .before .before))
 
 same-length-3 : tie.Need-same-length-3
 same-length-3 c = search needs
@@ -122,7 +122,7 @@ write-text-spec =
     cast-without-fill
     without-fill-requires
     slice-write-room
-    add-t10
+    add-t11
     same-length-3
     same-length-4
     returns-2)

@@ -56,7 +56,7 @@ loop-again c =
     let turn = on .before in
     let a = turn .before .before .args in
     let inv = turn .loop .inv in
-    let ended = after-shut .shut-list .ensures in (
+    let ended = after-shut .shut-list .ensures .0 in (
       omega (arith, on .loop-test .taken),
       omega (arith, inv .1),
       shut-again (a .lists .now) (a .from) (turn .loop .d) (inv .2) (on .loop-test .taken) (inv .1) (kept .wide .ensures) ended,
