@@ -16,7 +16,8 @@ use Rattle.calls.specs.Entry.{shown, over}
 use Rattle.promises.specs.Engine.{Engine}
 use Rattle.promises.specs.Rows.{OneOf}
 use Rattle.promises.specs.Grounds.{UsesB, MainLevel}
-use Rattle.promises.specs.TextGrounds.{Spells}
+use Rattle.promises.specs.StoredGrounds.{Spells}
+use Rattle.groups.specs.declared.Stored.{Stored}
 use Rattle.promises.specs.Demand1.{wordsOf}
 use Rattle.promises.specs.Erasing.{Erased}
 use Rattle.table.specs.declared.Form.{Form}
@@ -175,7 +176,7 @@ AskingLeaves form E =
 
 -- reading
 
--- the cell of a list's first element, where the k-th element to begin in the text has cell fs k, and this is the k-th;
+-- the cell of a list's first element, where the k-th element to begin in the bytes has cell fs k, and this is the k-th;
 -- the null list has none
 abbrev pub startOf : (ℕ → ℕ) → ℕ → Lst → ℕ
 startOf fs k nil = 0
@@ -204,9 +205,9 @@ pub record ReadIn (l : Lst) (fs : List ℕ) (h : ℕ) (p q : Pool) : Type 0 wher
 
 abbrev pub ReadingUsesItsCells : (form : Form) → Engine → Type 0
 ReadingUsesItsCells form E =
-    (ts ws : List ℕ) (h : ℕ) (xs : List ℕ) → let r = E .read ts ws h xs in
+    (k : Stored) (ts ws : List ℕ) (h : ℕ) (xs : List ℕ) → let r = E .read k ts ws h xs in
     r .answer ≡ DONE → let p = shown form ts in
-    (l : Lst) (fs : List ℕ) → Spells xs (r .count) l → Chain (p .cells) (p .free) fs
+    (l : Lst) (fs : List ℕ) → Spells k xs (r .count) l → Chain (p .cells) (p .free) fs
     → ReadIn l fs h p (shown form (r .table))
 
 -- no cell moves: one that is live before and after keeps T and E, and S but on the main level of a in INV and CONC

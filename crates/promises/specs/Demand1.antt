@@ -16,7 +16,9 @@ use Rattle.calls.specs.Run.{Ran, operations}
 use Rattle.promises.specs.Engine.{Engine}
 use Rattle.promises.specs.Rows.{Row, First, Answers, None}
 use Rattle.promises.specs.Grounds.{setUpRows, runRows, operationRows}
-use Rattle.promises.specs.TextGrounds.{readRows, writeRows, checkRows}
+use Rattle.promises.specs.TextGrounds.{checkRows}
+use Rattle.promises.specs.StoredGrounds.{atReading, readRows, writeRows, moveRows}
+use Rattle.groups.specs.declared.Stored.{Stored}
 use Rattle.table.specs.declared.Form.{Form}
 
 -- four words of a script
@@ -49,16 +51,21 @@ RunRefusals form E =
 
 abbrev pub ReadRefusals : (form : Form) → Engine → Type 0
 ReadRefusals form E =
-    (ts ws : List ℕ) (h : ℕ) (xs : List ℕ) → Answers (readRows form ts ws h xs) (E .read ts ws h xs .answer)
+    (k : Stored) (ts ws : List ℕ) (h : ℕ) (xs : List ℕ) → Answers (readRows form k ts ws h xs)
+    (E .read k ts ws h xs .answer)
 
 abbrev pub WriteRefusals : (form : Form) → Engine → Type 0
 WriteRefusals form E =
-    (ts ws : List ℕ) (h : ℕ) (out : List ℕ) → Answers (writeRows form ts ws h out) (E .write ts ws h out .answer)
+    (k : Stored) (ts ws : List ℕ) (h : ℕ) (out : List ℕ) → Answers (writeRows form k ts ws h out)
+    (E .write k ts ws h out .answer)
+
+abbrev pub MoveRefusals : Engine → Type 0
+MoveRefusals E = (k : Stored) (xs out : List ℕ) → Answers (moveRows k xs out) (E .move k xs out .answer)
 
 abbrev pub CheckRefusals : Engine → Type 0
 CheckRefusals E = (xs : List ℕ) → Answers (checkRows xs) (E .check xs .no)
 
--- after a refusal table, results and output are as they were, and each number is 0; the text is only read
+-- after a refusal table, results and output are as they were, and each number is 0; the bytes are only read
 abbrev pub RefusedSetUp : Engine → Type 0
 RefusedSetUp E = (ts : List ℕ) (n h : ℕ) → E .setUp ts n h .answer ≢ DONE → E .setUp ts n h .table ≡ ts
 
@@ -69,13 +76,18 @@ RefusedRun form E =
 
 abbrev pub RefusedRead : Engine → Type 0
 RefusedRead E =
-    (ts ws : List ℕ) (h : ℕ) (xs : List ℕ) → let r = E .read ts ws h xs in
+    (k : Stored) (ts ws : List ℕ) (h : ℕ) (xs : List ℕ) → let r = E .read k ts ws h xs in
     r .answer ≢ DONE → (r .table ≡ ts) × (r .count ≡ 0)
 
 abbrev pub RefusedWrite : Engine → Type 0
 RefusedWrite E =
-    (ts ws : List ℕ) (h : ℕ) (out : List ℕ) → let r = E .write ts ws h out in
+    (k : Stored) (ts ws : List ℕ) (h : ℕ) (out : List ℕ) → let r = E .write k ts ws h out in
     r .answer ≢ DONE → (r .output ≡ out) × (r .count ≡ 0)
+
+abbrev pub RefusedMove : Engine → Type 0
+RefusedMove E =
+    (k : Stored) (xs out : List ℕ) → let r = E .move k xs out in
+    r .answer ≢ DONE → (r .output ≡ out) × (r .taken ≡ 0) × (r .written ≡ 0)
 
 abbrev pub RefusedCheck : Engine → Type 0
 RefusedCheck E = (xs : List ℕ) → E .check xs .no ≢ DONE → E .check xs .taken ≡ 0
@@ -90,13 +102,13 @@ RunWork form E = (ts ws ss rs : List ℕ) → WorkSpace (take 4 (runRows form ts
 
 abbrev pub ReadWork : (form : Form) → Engine → Type 0
 ReadWork form E =
-    (ts ws : List ℕ) (h : ℕ) (xs : List ℕ) → WorkSpace (take 5 (readRows form ts ws h xs)) ts ws
-    (E .read ts ws h xs .work)
+    (k : Stored) (ts ws : List ℕ) (h : ℕ) (xs : List ℕ) → WorkSpace (atReading form k ts ws h xs) ts ws
+    (E .read k ts ws h xs .work)
 
 abbrev pub WriteWork : (form : Form) → Engine → Type 0
 WriteWork form E =
-    (ts ws : List ℕ) (h : ℕ) (out : List ℕ) → WorkSpace (take 3 (writeRows form ts ws h out)) ts ws
-    (E .write ts ws h out .work)
+    (k : Stored) (ts ws : List ℕ) (h : ℕ) (out : List ℕ) → WorkSpace (take 3 (writeRows form k ts ws h out)) ts ws
+    (E .write k ts ws h out .work)
 
 -- a script that passes its first rows is its operations one by one, up to one that is refused
 abbrev pub ScriptsStop : (form : Form) → Engine → Type 0
@@ -109,11 +121,13 @@ pub record Demand1 (form : Form) (E : Engine) : Type 0 where
   pub run-refusals : RunRefusals form E
   pub read-refusals : ReadRefusals form E
   pub write-refusals : WriteRefusals form E
+  pub move-refusals : MoveRefusals E
   pub check-refusals : CheckRefusals E
   pub refused-set-up : RefusedSetUp E
   pub refused-run : RefusedRun form E
   pub refused-read : RefusedRead E
   pub refused-write : RefusedWrite E
+  pub refused-move : RefusedMove E
   pub refused-check : RefusedCheck E
   pub run-work : RunWork form E
   pub read-work : ReadWork form E

@@ -1,9 +1,9 @@
 -- Demand 2: setting up leaves document 01's new pool; after whatever is done the holders have the lists of the report's
--- machine, however the cells are shared, in the cells that document 01 names; reading and writing keep to the text
--- form, and each undoes the other.
+-- machine, however the cells are shared, in the cells that document 01 names; reading, writing and moving keep to the
+-- stored forms, and each is undone.
 use mathlib.Core.Path.{_≡_}
 use mathlib.Core.Logic.{_≢_}
-use mathlib.Core.List.{List, _++_}
+use mathlib.Core.List.{List}
 use Prim.Native.Nat.{ℕ, _+_, _*_, _≤_, _<_, _^_}
 use lib.ListN.{length, getD, take, drop}
 use Rattle.answers.specs.Answers.{DONE}
@@ -12,13 +12,16 @@ use Rattle.pool.specs.Pool.{Pool, kindOf, elemOf, countOf, nextOf, holder, free
 use Rattle.pool.specs.Script.{Operation}
 use Rattle.table.specs.Limits.{cellsTold, holdersTold}
 use Rattle.text.specs.Limits.{levels}
-use Rattle.text.specs.ListText.{textOf, fill}
-use Rattle.text.specs.Writing.{usable}
+use Rattle.text.specs.ListText.{textOf}
+use Rattle.groups.specs.Stored.{other}
+use Rattle.groups.specs.declared.Stored.{Stored}
 use Rattle.calls.specs.Entry.{workWords, shown, over}
 use Rattle.calls.specs.Run.{operations}
 use Rattle.promises.specs.Engine.{Engine}
 use Rattle.promises.specs.Grounds.{BadTable, UsesB}
-use Rattle.promises.specs.TextGrounds.{AtEnd, Has, TakesRecords, plain, Records}
+use Rattle.promises.specs.Rows.{None}
+use Rattle.promises.specs.TextGrounds.{AtEnd, TakesRecords, plain, Records}
+use Rattle.promises.specs.StoredGrounds.{Has, Spells, spelling, Anew, TooLong, byteRows}
 use Rattle.promises.specs.Machine.{Lists, assign, turn, says, turnAll, Says}
 use Rattle.promises.specs.Demand1.{wordsOf}
 use Rattle.promises.specs.Cells.{SizesStay, HoldersStay, PrefixTakesHead, PrefixListTakesHead, DecapFreesToHead, AdvErases, BorrowShares, EraseErases, InvTurns, CinvCopies, ConcJoins, AskingLeaves, LiveCellsStay, ReadingUsesItsCells}
@@ -27,10 +30,6 @@ use Rattle.table.specs.declared.Form.{Form}
 -- the holders of a table have these lists
 abbrev pub Holds : (form : Form) → List ℕ → Lists → Type 0
 Holds form ts m = (i : ℕ) → Has form ts i (m i)
-
--- the text of a list with its last record filled
-abbrev pub filled : List ℕ → List ℕ
-filled t = t ++ fill (length t)
 
 -- words of 32 bits
 abbrev pub Words : List ℕ → Type 0
@@ -84,24 +83,28 @@ ScriptsGive form E =
     let os = take (r .count) (operations ss) in
     Holds form (r .table) (turnAll m os) × ((qs : List ℕ) × Says m os qs × (r .results ≡ over qs rs))
 
--- reading gives the list of the text, and the bytes taken; so does the text check
+-- reading gives the list of the bytes taken, and of these no more than the first list's
 abbrev pub ReadingGives : (form : Form) → Engine → Type 0
 ReadingGives form E =
-    (ts ws : List ℕ) (h : ℕ) (xs : List ℕ) (m : Lists) → Holds form ts m → let r = E .read ts ws h xs in
-    r .answer ≡ DONE → (l : Lst) × (t : List ℕ) × Records xs (r .count) t × (textOf l ≡ plain t)
-    × Holds form (r .table) (assign m h l)
+    (k : Stored) (ts ws : List ℕ) (h : ℕ) (xs : List ℕ) (m : Lists) → Holds form ts m → let r = E .read k ts ws h xs in
+    r .answer ≡ DONE → (l : Lst) × Spells k xs (r .count) l × Holds form (r .table) (assign m h l)
+
+-- one statement over both stored forms: bytes of one list, with no fault of their own, are answered the same whatever
+-- their form, and leave the same table word for word, so the same cells in the same order
+abbrev pub FormsReadAlike : Engine → Type 0
+FormsReadAlike E =
+    (k j : Stored) (ts ws : List ℕ) (h : ℕ) (xs ys : List ℕ) (m n : ℕ) (l : Lst) → Spells k xs m l → Spells j ys n l
+    → None (byteRows k xs) → None (byteRows j ys)
+    → let r = E .read k ts ws h xs in let q = E .read j ts ws h ys in
+    (r .answer ≡ q .answer) × (r .table ≡ q .table) × (r .work ≡ q .work)
 
 abbrev pub CheckingGives : Engine → Type 0
 CheckingGives E = (xs : List ℕ) → let r = E .check xs in r .no ≡ DONE → (l : Lst) × (t : List ℕ)
     × Records xs (r .taken) t × (textOf l ≡ plain t)
 
--- both take the first list's records and no more
+-- the text check gives the list of the text and the bytes taken, which are the first list's records and no more
 abbrev pub CheckingTakes : Engine → Type 0
 CheckingTakes E = (xs : List ℕ) → let r = E .check xs in r .no ≡ DONE → TakesRecords xs (r .taken)
-
-abbrev pub ReadingTakes : Engine → Type 0
-ReadingTakes E = (ts ws : List ℕ) (h : ℕ) (xs : List ℕ) → let r = E .read ts ws h xs in r .answer ≡ DONE
-    → TakesRecords xs (r .count)
 
 -- the further call hands back what stands behind the records that the check takes, or the empty part at the end: where
 -- only blanks stand there, and where the check refuses
@@ -112,31 +115,54 @@ RestGives E =
     × (r .no ≡ DONE → AtEnd left → E .rest xs ≡ length xs)
     × (r .no ≢ DONE → E .rest xs ≡ length xs)
 
--- writing gives the text of the list, and the bytes written
+-- writing gives the bytes of the list, and their number
 abbrev pub WritingGives : (form : Form) → Engine → Type 0
 WritingGives form E =
-    (ts ws : List ℕ) (h : ℕ) (out : List ℕ) (l : Lst) → Has form ts h l → let r = E .write ts ws h out in
-    r .answer ≡ DONE → (r .output ≡ over (filled (textOf l)) out) × (r .count ≡ length (filled (textOf l)))
+    (k : Stored) (ts ws : List ℕ) (h : ℕ) (out : List ℕ) (l : Lst) → Has form ts h l → let r = E .write k ts ws h out in
+    r .answer ≡ DONE → (r .output ≡ over (spelling k l) out) × (r .count ≡ length (spelling k l))
 
--- a list that is written is read again as itself, if the output takes its text and the pool has its cells
+-- a list that is written is read again as itself, if the output takes its bytes and the pool has its cells
 abbrev pub WrittenReadsBack : (form : Form) → Engine → Type 0
 WrittenReadsBack form E =
-    (ts ws out us vs : List ℕ) (h k : ℕ) (l : Lst) → Words ts → Ready form ts ws
+    (k : Stored) (ts ws out us vs : List ℕ) (h i : ℕ) (l : Lst) → Words ts → Ready form ts ws
     → h < length (shown form ts .holders) → Has form ts h l
-    → order l ≤ levels → length (textOf l) ≤ usable (length out)
-    → Ready form us vs → k < length (shown form us .holders) → holder (shown form us) k ≡ 0
+    → order l ≤ levels → (TooLong k (length out) l → ⊥)
+    → Ready form us vs → i < length (shown form us .holders) → holder (shown form us) i ≡ 0
     → extent l ≤ frees (shown form us .cells)
-    → let w = E .write ts ws h out in
-    let r = E .read us vs k (take (w .count) (w .output)) in
-    (w .answer ≡ DONE) × (r .answer ≡ DONE) × (r .count ≡ w .count) × Has form (r .table) k l
+    → let w = E .write k ts ws h out in
+    let r = E .read k us vs i (take (w .count) (w .output)) in
+    (w .answer ≡ DONE) × (r .answer ≡ DONE) × (r .count ≡ w .count) × Has form (r .table) i l
 
--- a text that is read is written again without its leading zeros, and filled anew
+-- bytes that are read are written anew: a text without its leading zeros and filled again, groups byte for byte
 abbrev pub ReadWritesBack : Engine → Type 0
 ReadWritesBack E =
-    (ts ws vs out : List ℕ) (h : ℕ) (xs t : List ℕ) → let r = E .read ts ws h xs in
-    r .answer ≡ DONE → Records xs (r .count) t → workWords * cellsTold ts ≤ length vs → r .count ≤ length out
-    → let w = E .write (r .table) vs h out in
-    (w .answer ≡ DONE) × (w .output ≡ over (filled (plain t)) out)
+    (k : Stored) (ts ws vs out : List ℕ) (h : ℕ) (xs bs : List ℕ) → let r = E .read k ts ws h xs in
+    r .answer ≡ DONE → Anew k xs (r .count) bs → workWords * cellsTold ts ≤ length vs → r .count ≤ length out
+    → let w = E .write k (r .table) vs h out in
+    (w .answer ≡ DONE) × (w .output ≡ over bs out)
+
+-- a move gives the list of the bytes taken in the other form
+abbrev pub MovingGives : Engine → Type 0
+MovingGives E =
+    (k : Stored) (xs out : List ℕ) → let r = E .move k xs out in
+    r .answer ≡ DONE → (l : Lst) × Spells k xs (r .taken) l
+    × (r .output ≡ over (spelling (other k) l) out) × (r .written ≡ length (spelling (other k) l))
+
+-- what is moved there and back comes home anew
+abbrev pub MovesHome : Engine → Type 0
+MovesHome E =
+    (k : Stored) (xs out home bs : List ℕ) → let r = E .move k xs out in
+    r .answer ≡ DONE → Anew k xs (r .taken) bs
+    → let q = E .move (other k) (take (r .written) (r .output)) home in
+    q .answer ≡ DONE → (q .taken ≡ r .written) × (q .written ≡ length bs) × (q .output ≡ over bs home)
+
+-- and is what a reading into a table and a writing in the other form give, where all three are done
+abbrev pub MovesAsTables : Engine → Type 0
+MovesAsTables E =
+    (k : Stored) (ts ws vs : List ℕ) (h : ℕ) (xs out : List ℕ) → let r = E .read k ts ws h xs in
+    let w = E .write (other k) (r .table) vs h out in let q = E .move k xs out in
+    r .answer ≡ DONE → w .answer ≡ DONE → q .answer ≡ DONE
+    → (q .taken ≡ r .count) × (q .written ≡ w .count) × (q .output ≡ w .output)
 
 pub record Demand2 (form : Form) (E : Engine) : Type 0 where
   pub set-up-gives : SetUpGives form E
@@ -158,10 +184,13 @@ pub record Demand2 (form : Form) (E : Engine) : Type 0 where
   pub scripts-give : ScriptsGive form E
   pub reading-gives : ReadingGives form E
   pub reading-uses-its-cells : ReadingUsesItsCells form E
+  pub forms-read-alike : FormsReadAlike E
   pub checking-gives : CheckingGives E
   pub checking-takes : CheckingTakes E
-  pub reading-takes : ReadingTakes E
   pub rest-gives : RestGives E
   pub writing-gives : WritingGives form E
   pub written-reads-back : WrittenReadsBack form E
   pub read-writes-back : ReadWritesBack E
+  pub moving-gives : MovingGives E
+  pub moves-home : MovesHome E
+  pub moves-as-tables : MovesAsTables E

@@ -15,7 +15,8 @@ use Rattle.calls.specs.Entry.{workWords, shown}
 use Rattle.promises.specs.Engine.{Engine, Reached}
 use Rattle.promises.specs.Rows.{None}
 use Rattle.promises.specs.Grounds.{NoHolder, BadTable, BadWork, Needs, beforeRoom}
-use Rattle.promises.specs.TextGrounds.{Has, Spells, sizeRows, faultRows}
+use Rattle.promises.specs.StoredGrounds.{Has, Spells, sizeRows, faultRows}
+use Rattle.groups.specs.declared.Stored.{Stored}
 use Rattle.promises.specs.Demand1.{wordsOf}
 use Rattle.table.specs.declared.Form.{Form}
 
@@ -86,10 +87,11 @@ NoRoomToPerform form E =
 
 abbrev pub NoRoomToRead : (form : Form) → Engine → Type 0
 NoRoomToRead form E =
-    (ts ws : List ℕ) (h : ℕ) (xs : List ℕ) (k m : ℕ) (l : Lst) → Lent form E ts → (BadWork workWords ts ws → ⊥)
-    → (NoHolder (shown form ts) h → ⊥) → None (sizeRows xs) → holder (shown form ts) h ≡ 0 → None (faultRows xs)
-    → Number (Used (shown form ts)) (length (shown form ts .cells)) k → Spells xs m l
-    → (E .read ts ws h xs .answer ≡ NO-ROOM) ↔ (length (shown form ts .cells) < k + extent l)
+    (s : Stored) (ts ws : List ℕ) (h : ℕ) (xs : List ℕ) (k m : ℕ) (l : Lst) → Lent form E ts
+    → (BadWork workWords ts ws → ⊥) → (NoHolder (shown form ts) h → ⊥) → None (sizeRows s xs)
+    → holder (shown form ts) h ≡ 0 → None (faultRows s xs)
+    → Number (Used (shown form ts)) (length (shown form ts .cells)) k → Spells s xs m l
+    → (E .read s ts ws h xs .answer ≡ NO-ROOM) ↔ (length (shown form ts .cells) < k + extent l)
 
 pub record Demand3 (form : Form) (E : Engine) : Type 0 where
   pub counts-are-arrows : CountsAreArrows form E

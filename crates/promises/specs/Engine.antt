@@ -8,6 +8,8 @@ use Rattle.calls.specs.SetUp.{Given, setUpIn}
 use Rattle.calls.specs.Run.{Ran, ranIn}
 use Rattle.calls.specs.Read.{Read, readingIn}
 use Rattle.calls.specs.Write.{Write, writingIn}
+use Rattle.calls.specs.Move.{Move, movedFrom}
+use Rattle.groups.specs.declared.Stored.{Stored}
 use Rattle.table.specs.declared.Form.{Form}
 
 -- what each call gives: its answer, its number, and the lent words afterwards
@@ -16,10 +18,12 @@ pub record Engine : Type 0 where
   pub setUp : List ℕ → ℕ → ℕ → Given
   -- table, work space, script, results
   pub run : List ℕ → List ℕ → List ℕ → List ℕ → Ran
-  -- table, work space, holder, text
-  pub read : List ℕ → List ℕ → ℕ → List ℕ → Read
-  -- table, work space, holder, output
-  pub write : List ℕ → List ℕ → ℕ → List ℕ → Write
+  -- stored form, table, work space, holder, bytes
+  pub read : Stored → List ℕ → List ℕ → ℕ → List ℕ → Read
+  -- stored form, table, work space, holder, output
+  pub write : Stored → List ℕ → List ℕ → ℕ → List ℕ → Write
+  -- stored form, bytes, output; the list goes into the other form
+  pub move : Stored → List ℕ → List ℕ → Move
   -- text
   pub check : List ℕ → Answer
   -- text; where the records after the first list begin
@@ -31,6 +35,7 @@ ours form = record {
   run = ranIn form;
   read = readingIn form;
   write = writingIn form;
+  move = movedFrom;
   check = verdict;
   rest = restAt;
 }
@@ -40,4 +45,5 @@ pub data Reached (E : Engine) : List ℕ → Type 0 where
   made : (ts : List ℕ) (n h : ℕ) → E .setUp ts n h .answer ≡ DONE → Reached E (E .setUp ts n h .table)
   setAgain : {ts : List ℕ} (n h : ℕ) → Reached E ts → Reached E (E .setUp ts n h .table)
   ranOn : {ts : List ℕ} (ws ss rs : List ℕ) → Reached E ts → Reached E (E .run ts ws ss rs .table)
-  readInto : {ts : List ℕ} (ws : List ℕ) (h : ℕ) (xs : List ℕ) → Reached E ts → Reached E (E .read ts ws h xs .table)
+  readInto : {ts : List ℕ} (k : Stored) (ws : List ℕ) (h : ℕ) (xs : List ℕ) → Reached E ts
+      → Reached E (E .read k ts ws h xs .table)

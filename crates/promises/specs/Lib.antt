@@ -2,6 +2,8 @@ pub mod Engine
 pub mod Rows
 pub mod Grounds
 pub mod TextGrounds
+pub mod GroupGrounds
+pub mod StoredGrounds
 pub mod Machine
 pub mod Demand1
 pub mod Erasing

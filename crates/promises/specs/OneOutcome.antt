@@ -6,13 +6,16 @@ use mathlib.Core.Logic.{inl, inr}
 use mathlib.Core.List.{List, [], _∷_}
 use Prim.Native.Nat.{ℕ}
 use Rattle.answers.specs.Answers.{outcome}
+use Rattle.answers.specs.declared.Moved.{Moved}
 use Rattle.answers.specs.declared.Outcome.{Outcome}
 use Rattle.text.specs.Text.{verdict, restAt}
 use Rattle.calls.specs.SetUp.{setUpIn}
 use Rattle.calls.specs.Run.{ranIn}
 use Rattle.calls.specs.Read.{readingIn}
-use Rattle.calls.specs.Contracts.{SetsUp, Runs, Reads, Writes}
+use Rattle.calls.specs.Contracts.{SetsUp, Runs, Reads, Writes, Moves}
 use Rattle.calls.specs.Write.{writingIn}
+use Rattle.calls.specs.Move.{movedFrom}
+use Rattle.groups.specs.declared.Stored.{Stored}
 use Rattle.promises.specs.Rows.{Row, Answers}
 use Rattle.table.specs.declared.Form.{Form}
 
@@ -29,16 +32,21 @@ one-run form ts ws ss rs a b =
     (a .outcome ∙ sym (b .outcome), a .table ∙ sym (b .table), a .work ∙ sym (b .work), a .results ∙ sym (b .results))
 
 -- reading
-pub one-read : (form : Form) → (ts ws : List ℕ) (h : ℕ) (xs : List ℕ) {r s : Outcome} {us vs us′ vs′ : List ℕ}
-    → Reads r us vs (readingIn form ts ws h xs) → Reads s us′ vs′ (readingIn form ts ws h xs)
+pub one-read : (form : Form) (k : Stored) (ts ws : List ℕ) (h : ℕ) (xs : List ℕ) {r s : Outcome} {us vs us′ vs′ : List ℕ}
+    → Reads r us vs (readingIn form k ts ws h xs) → Reads s us′ vs′ (readingIn form k ts ws h xs)
     → (r ≡ s) × (us ≡ us′) × (vs ≡ vs′)
-one-read form ts ws h xs a b = (a .outcome ∙ sym (b .outcome), a .table ∙ sym (b .table), a .work ∙ sym (b .work))
+one-read form k ts ws h xs a b = (a .outcome ∙ sym (b .outcome), a .table ∙ sym (b .table), a .work ∙ sym (b .work))
 
 -- writing
-pub one-write : (form : Form) → (ts ws : List ℕ) (h : ℕ) (out : List ℕ) {r s : Outcome} {vs os vs′ os′ : List ℕ}
-    → Writes r vs os (writingIn form ts ws h out) → Writes s vs′ os′ (writingIn form ts ws h out)
+pub one-write : (form : Form) (k : Stored) (ts ws : List ℕ) (h : ℕ) (out : List ℕ) {r s : Outcome} {vs os vs′ os′ : List ℕ}
+    → Writes r vs os (writingIn form k ts ws h out) → Writes s vs′ os′ (writingIn form k ts ws h out)
     → (r ≡ s) × (vs ≡ vs′) × (os ≡ os′)
-one-write form ts ws h out a b = (a .outcome ∙ sym (b .outcome), a .work ∙ sym (b .work), a .output ∙ sym (b .output))
+one-write form k ts ws h out a b = (a .outcome ∙ sym (b .outcome), a .work ∙ sym (b .work), a .output ∙ sym (b .output))
+
+-- moving
+pub one-move : (k : Stored) (xs out : List ℕ) {r s : Moved} {os os′ : List ℕ} → Moves r os (movedFrom k xs out)
+    → Moves s os′ (movedFrom k xs out) → (r ≡ s) × (os ≡ os′)
+one-move k xs out a b = (a .moved ∙ sym (b .moved), a .output ∙ sym (b .output))
 
 -- the text check
 pub one-check : (xs : List ℕ) {r s : Outcome} → r ≡ outcome (verdict xs .no) (verdict xs .taken)

@@ -1,23 +1,19 @@
 -- When each answer about text is given, in the words of documents 01 and 02: what the text form allows after the
--- characters so far, and the rows of the text check, of reading and of writing.
+-- characters so far, and the rows of the text check.
 use mathlib.Core.Path.{_≡_}
 use mathlib.Core.Logic.{_≢_, _⊎_}
 use mathlib.Core.Bool.{false, cond}
 use mathlib.Core.List.{List, [], _∷_, _++_}
 use Prim.Native.Nat.{ℕ, _+_, _-_, _*_, _%_, _≤_, _<_}
 use lib.ListN.{length, take, replicate}
-use Rattle.answers.specs.Answers.{UNSOUND, HOLDER, OCCUPIED, NO-ROOM, TEXT-SIZE, END, NOT-A-LIST, ATOM, DEEP, OUTPUT}
-use Rattle.lists.specs.Lst.{Lst, extent}
+use Rattle.answers.specs.Answers.{TEXT-SIZE, END, NOT-A-LIST, ATOM, DEEP}
+use Rattle.lists.specs.Lst.{Lst}
 use Rattle.pool.specs.Tally.{occ}
-use Rattle.pool.specs.Pool.{holder, ListAt, frees}
 use Rattle.text.specs.Limits.{levels, recordBytes, textMost, digitsMost, atomsEnd}
 use Rattle.text.specs.Text.{others}
 use Rattle.text.specs.ListText.{textOf, isDigit, bare}
 use Rattle.text.specs.Writing.{usable, depthAfter}
-use Rattle.calls.specs.Entry.{workWords, shown}
 use Rattle.promises.specs.Rows.{Row, row}
-use Rattle.promises.specs.Grounds.{Unsound, NoHolder, entryRows}
-use Rattle.table.specs.declared.Form.{Form}
 
 abbrev pub BadText : List ℕ → Type 0
 BadText xs = (length xs % recordBytes ≢ 0) ⊎ (textMost < length xs)
@@ -130,37 +126,6 @@ sizeRows xs = row TEXT-SIZE (BadText xs) ∷ row END (AtEnd xs) ∷ []
 abbrev pub checkRows : List ℕ → List Row
 checkRows xs = sizeRows xs ++ faultRows xs
 
--- reading
-
-abbrev pub beforeReading : (form : Form) → List ℕ → List ℕ → ℕ → List ℕ → List Row
-beforeReading form ts ws h xs =
-    entryRows workWords form ts ws
-    ++ (row HOLDER (NoHolder (shown form ts) h)
-    ∷ sizeRows xs
-    ++ (row UNSOUND (Unsound form ts)
-    ∷ row OCCUPIED (holder (shown form ts) h ≢ 0)
-    ∷ faultRows xs))
-
-abbrev pub readRows : (form : Form) → List ℕ → List ℕ → ℕ → List ℕ → List Row
-readRows form ts ws h xs =
-    beforeReading form ts ws h xs
-    ++ (row NO-ROOM ((m : ℕ) × (l : Lst) × Spells xs m l × (frees (shown form ts .cells) < extent l)) ∷ [])
-
--- writing
-
 -- a "(" that opens level 201, no later than just behind the usable output
 abbrev pub TooDeep : ℕ → List ℕ → Type 0
 TooDeep u t = (us : List ℕ) × (later : List ℕ) × (t ≡ us ++ (40 ∷ later)) × (levels ≤ openIn us) × (length us ≤ u)
-
--- the list that holder h of a table has
-abbrev pub Has : (form : Form) → List ℕ → ℕ → Lst → Type 0
-Has form ts h l = ListAt (shown form ts .cells) (holder (shown form ts) h) l
-
-abbrev pub writeRows : (form : Form) → List ℕ → List ℕ → ℕ → List ℕ → List Row
-writeRows form ts ws h out =
-    entryRows workWords form ts ws
-    ++ (row HOLDER (NoHolder (shown form ts) h)
-    ∷ row UNSOUND (Unsound form ts)
-    ∷ row DEEP ((l : Lst) × Has form ts h l × TooDeep (usable (length out)) (textOf l))
-    ∷ row OUTPUT ((l : Lst) × Has form ts h l × (usable (length out) < length (textOf l)))
-    ∷ [])

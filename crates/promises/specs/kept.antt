@@ -6,3 +6,4 @@ pub mod CellsStay
 pub mod Demand1Kept
 pub mod Demand3Kept
 pub mod Demand2Kept
+pub mod MoveDoes

@@ -23,3 +23,7 @@ pub mod ErasingLaws
 pub mod Levels
 pub mod LoadCells
 pub mod CopyCells
+pub mod GroupRows
+pub mod StoredRows
+pub mod StoredTrips
+pub mod MoveLaws

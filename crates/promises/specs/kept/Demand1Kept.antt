@@ -1,14 +1,14 @@
 -- Our engine keeps demand 1: each chain of tests is the chain of rows, and a script is its operations one by one.
 use mathlib.Core.Path.{_≡_, refl, sym, ap, _∙_, subst}
 use mathlib.Core.Logic.{_≢_, _⊎_, inl, inr}
-use mathlib.Core.Bool.{Bool, true, false, cond, not}
+use mathlib.Core.Bool.{Bool, cond, not}
 use mathlib.Core.List.{List, [], _∷_, _++_}
 use Prim.Native.Nat.{ℕ, suc, _≤_, _<_}
 use native.Mathlib.Omega.{arith}
 use lib.Dec.{eqb, ltb}
 use lib.ListN.{length, drop, replicate}
 use borrow.Author.Tests.{eqb-true, eqb-false, le-ltb}
-use Rattle.answers.specs.Answers.{DONE, RESULTS, UNSOUND, HOLDER, OCCUPIED, NO-ROOM, DEEP, OUTPUT, unless}
+use Rattle.answers.specs.Answers.{DONE, RESULTS, UNSOUND, HOLDER, OCCUPIED, NO-ROOM, OUTPUT, unless}
 use Rattle.answers.specs.Codes.{resultWords}
 use Rattle.answers.specs.laws.Unless.{both-ways}
 use Rattle.lists.specs.Lst.{Lst, extent}
@@ -20,11 +20,9 @@ use Rattle.pool.specs.Script.{Operation, Run, refusal, effect, goesOn, stops, p
 use Rattle.pool.specs.laws.ByCode.{either-way}
 use Rattle.pool.specs.laws.Lengths.{effect-alike}
 use Rattle.pool.specs.laws.ScriptLaws.{allowed, effect-sound}
-use Rattle.text.specs.Marks.{listIn}
-use Rattle.text.specs.Text.{Answer, sizeFault, verdict, scanned}
-use Rattle.text.specs.laws.SizeLaws.{right-size}
-use Rattle.text.specs.ListText.{textOf}
-use Rattle.text.specs.Writing.{usable}
+use Rattle.text.specs.Text.{Answer}
+use Rattle.groups.specs.Stored.{sizeFault, verdict, scanned, listIn, judged}
+use Rattle.groups.specs.laws.StoredLaws.{right-size}
 use Rattle.calls.specs.SetUp.{Given}
 use Rattle.calls.specs.Entry.{workWords, entryFault, noHolder, shown, unsound, stored, used, over}
 use Rattle.calls.specs.laws.EntryLaws.{entry-alike}
@@ -33,21 +31,21 @@ use Rattle.calls.specs.Read.{Read as Reading, notRead, readingIn}
 use Rattle.calls.specs.Write.{Write, notWritten, writeList, writingIn}
 use Rattle.promises.specs.Engine.{ours}
 use Rattle.promises.specs.Rows.{Row, row, Answers}
-use Rattle.promises.specs.Grounds.{Unsound, setUpRows, entryRows, scriptRows, operationRows}
-use Rattle.promises.specs.TextGrounds.{readRows, sizeRows, faultRows, writeRows, Has, TooDeep, Spells}
+use Rattle.promises.specs.Grounds.{Unsound, NoHolder, setUpRows, entryRows, scriptRows, operationRows}
+use Rattle.promises.specs.StoredGrounds.{sizeRows, faultRows, roomRows, intoRows, writeRows, Has, TooDeep, TooLong, Spells}
 use Rattle.promises.specs.Demand1.{wordsOf, alone, Stops, end, refused, done, Demand1, SetUpRefusals, RunRefusals, ReadRefusals, WriteRefusals, ScriptsStop, RefusedRun}
 use Rattle.promises.specs.laws.Tells.{tells-eq, tells-lt, tells-not, first, unless-first, Tells, tells-as}
-use Rattle.promises.specs.laws.TestsTell.{tells-size, entry-answers, entry-each, script-answers, script-each, size-answers, size-each, tells-unsound, tells-holder}
-use Rattle.promises.specs.laws.TextOnce.{spells-once, spells-ours}
+use Rattle.promises.specs.laws.TestsTell.{tells-size, entry-answers, entry-each, script-answers, script-each, tells-unsound, tells-holder}
+use Rattle.promises.specs.laws.StoredRows.{size-answers, size-each, fault-answers, fault-each, spells-once, spells-ours, Judged, judges}
 use Rattle.promises.specs.laws.OperationRows.{operation-answers}
-use Rattle.promises.specs.laws.TextRows.{scan-answers, check-answers, check-refused}
-use Rattle.promises.specs.laws.WriteRows.{judged-answers}
+use Rattle.promises.specs.laws.TextRows.{check-answers, check-refused}
 use Rattle.promises.specs.laws.Tables.{Good, entered-good, stores, stored-good, stored-same, good-sound}
 use Rattle.promises.specs.laws.RunLaws.{Passed, passed-good, passes, passed-none, whole, runs, run-ways}
 use Rattle.promises.specs.laws.ScriptDoes.{one-done}
 use Rattle.promises.specs.laws.ReadLaws.{filledIn, read-ways}
-use Rattle.promises.specs.laws.WriteLaws.{listOf-is, write-ways, judgement}
+use Rattle.promises.specs.laws.WriteLaws.{listOf-is, write-ways}
 use Rattle.setup.specs.laws.SetUpLaws.{set-up-ways}
+use Rattle.promises.specs.kept.MoveDoes.{move-rows, refused-moves}
 use Rattle.promises.specs.kept.WorkDoes.{run-work, read-work, write-work}
 use Rattle.table.specs.declared.Form.{Form}
 
@@ -86,23 +84,17 @@ of-read r = r .answer
 
 read-rows : (form : Form) → ReadRefusals form (ours form)
 unfolding readingIn
-read-rows form ts ws h xs =
-    unless-first (entryRows workWords form ts ws) (rows 2) (entryFault workWords form ts (length ws)) (entry-each workWords form ts ws) (entry-answers workWords form ts ws) of-read done? refuse holding (λ _. refl) (λ _.
-    first of-read (later 3) (noHolder form ts h) (notRead HOLDER ts ws) sizing (tells-holder form ts h) refl (λ _.
-    unless-first (sizeRows xs) (rows 5) (sizeFault xs) (size-each xs) (size-answers xs) of-read done? refuse sounding (λ _. refl) (λ s.
-    first of-read (later 6) (unsound form ts) (notRead UNSOUND ts (used form ts ws)) filling (tells-unsound form ts) refl (λ _.
-    first of-read (later 7) (not (eqb (holder (shown form ts) h) 0)) (notRead OCCUPIED ts (used form ts ws)) judging (tells-not (eqb (holder (shown form ts) h) 0) (tells-eq (holder (shown form ts) h) 0)) refl (λ _.
-    unless-first (faultRows xs) (rows 10) (verdict xs .no) ((λ z. omega arith), ((λ z. omega arith), ((λ z. omega arith), tt))) (faults (right-size xs s)) of-read done? refuseUsed fitting (λ _. refl) (λ e.
-    first of-read done? (ltb (frees (shown form ts .cells)) (extent (listIn xs))) (notRead NO-ROOM ts (used form ts ws)) (filledIn form ts ws h xs) (tells-room-read e) refl (λ _. refl)))))))
+read-rows form k ts ws h xs =
+    unless-first (entryRows workWords form ts ws) (row HOLDER (NoHolder (shown form ts) h) ∷ sizeRows k xs ++ intoRows form k ts h xs) (entryFault workWords form ts (length ws)) (entry-each workWords form ts ws) (entry-answers workWords form ts ws) of-read done? refuse holding (λ _. refl) (λ _.
+    first of-read (Answers (sizeRows k xs ++ intoRows form k ts h xs)) (noHolder form ts h) (notRead HOLDER ts ws) sizing (tells-holder form ts h) refl (λ _.
+    unless-first (sizeRows k xs) (intoRows form k ts h xs) (sizeFault k xs) (size-each k xs) (size-answers k xs) of-read done? refuse sounding (λ _. refl) (λ s.
+    first of-read (Answers (drop 1 (intoRows form k ts h xs))) (unsound form ts) (notRead UNSOUND ts (used form ts ws)) filling (tells-unsound form ts) refl (λ _.
+    first of-read (Answers (faultRows k xs ++ roomRows form k ts xs)) (not (eqb (holder (shown form ts) h) 0)) (notRead OCCUPIED ts (used form ts ws)) judging (tells-not (eqb (holder (shown form ts) h) 0) (tells-eq (holder (shown form ts) h) 0)) refl (λ _.
+    unless-first (faultRows k xs) (roomRows form k ts xs) (verdict k xs .no) (fault-each k xs) (faults (right-size k xs s)) of-read done? refuseUsed fitting (λ _. refl) (λ e.
+    first of-read done? (ltb (frees (shown form ts .cells)) (extent (listIn k xs))) (notRead NO-ROOM ts (used form ts ws)) (filledIn form k ts ws h xs) (tells-room-read e) refl (λ _. refl)))))))
   where
     done? : ℕ → Type 0
     done? m = m ≡ DONE
-
-    rows : ℕ → List Row
-    rows k = drop k (readRows form ts ws h xs)
-
-    later : ℕ → ℕ → Type 0
-    later k = Answers (rows k)
 
     refuse : ℕ → Reading
     refuse n = notRead n ts ws
@@ -112,10 +104,10 @@ read-rows form ts ws h xs =
 
     -- what is left of the call, test by test from the last
     fitting : Reading
-    fitting = cond (ltb (frees (shown form ts .cells)) (extent (listIn xs))) (notRead NO-ROOM ts (used form ts ws)) (filledIn form ts ws h xs)
+    fitting = cond (ltb (frees (shown form ts .cells)) (extent (listIn k xs))) (notRead NO-ROOM ts (used form ts ws)) (filledIn form k ts ws h xs)
 
     judging : Reading
-    judging = unless (verdict xs .no) refuseUsed fitting
+    judging = unless (verdict k xs .no) refuseUsed fitting
 
     filling : Reading
     filling = cond (not (eqb (holder (shown form ts) h) 0)) (notRead OCCUPIED ts (used form ts ws)) judging
@@ -124,36 +116,36 @@ read-rows form ts ws h xs =
     sounding = cond (unsound form ts) (notRead UNSOUND ts (used form ts ws)) filling
 
     sizing : Reading
-    sizing = unless (sizeFault xs) refuse sounding
+    sizing = unless (sizeFault k xs) refuse sounding
 
     holding : Reading
     holding = cond (noHolder form ts h) (notRead HOLDER ts ws) sizing
 
-    faults : verdict xs ≡ scanned xs → Answers (faultRows xs) (verdict xs .no)
-    faults e = subst (λ (r : Answer). Answers (faultRows xs) (r .no)) (sym e) (scan-answers xs)
+    faults : verdict k xs ≡ scanned k xs → Answers (faultRows k xs) (verdict k xs .no)
+    faults e = subst (λ (r : Answer). Answers (faultRows k xs) (r .no)) (sym e) (fault-answers k xs)
 
-    -- the list of the text is one, and it is the one read
-    tells-room-read : verdict xs .no ≡ DONE → Tells (ltb (frees (shown form ts .cells)) (extent (listIn xs))) ((m : ℕ) × (l : Lst) × Spells xs m l × (frees (shown form ts .cells) < extent l))
+    -- the list of the bytes is one, and it is the one read
+    tells-room-read : verdict k xs .no ≡ DONE → Tells (ltb (frees (shown form ts .cells)) (extent (listIn k xs))) ((m : ℕ) × (l : Lst) × Spells k xs m l × (frees (shown form ts .cells) < extent l))
     tells-room-read e =
-        let w = spells-ours xs e in
-        tells-as (tells-lt (frees (shown form ts .cells)) (extent (listIn xs))) (λ f. (verdict xs .taken, listIn xs, w, f))
-        (λ (m, l, d, f). subst (λ (k : Lst). frees (shown form ts .cells) < extent k) (spells-once xs m (verdict xs .taken) l (listIn xs) d w .1) f)
+        let w = spells-ours k xs e in
+        tells-as (tells-lt (frees (shown form ts .cells)) (extent (listIn k xs))) (λ f. (verdict k xs .taken, listIn k xs, w, f))
+        (λ (m, l, d, f). subst (λ (j : Lst). frees (shown form ts .cells) < extent j) (spells-once k xs m (verdict k xs .taken) l (listIn k xs) d w .1) f)
 
 abbrev of-write : Write → ℕ
 of-write r = r .answer
 
 write-rows : (form : Form) → WriteRefusals form (ours form)
 unfolding writingIn
-write-rows form ts ws h out =
-    unless-first (entryRows workWords form ts ws) (drop 2 (writeRows form ts ws h out)) (entryFault workWords form ts (length ws)) (entry-each workWords form ts ws) (entry-answers workWords form ts ws) of-write (λ m. m ≡ DONE) (λ (n : ℕ). notWritten n ws out) holding (λ _. refl) (λ e.
+write-rows form k ts ws h out =
+    unless-first (entryRows workWords form ts ws) (drop 2 (writeRows form k ts ws h out)) (entryFault workWords form ts (length ws)) (entry-each workWords form ts ws) (entry-answers workWords form ts ws) of-write (λ m. m ≡ DONE) (λ (n : ℕ). notWritten n ws out) holding (λ _. refl) (λ e.
     first of-write (later 3) (noHolder form ts h) (notWritten HOLDER ws out) sounding (tells-holder form ts h) refl (λ _.
-    first of-write (later 4) (unsound form ts) (notWritten UNSOUND (used form ts ws) out) (writeList (listOf (shown form ts) h) (used form ts ws) out) (tells-unsound form ts) refl (λ u. text (entered-good form ts ws e u .sound))))
+    first of-write (later 4) (unsound form ts) (notWritten UNSOUND (used form ts ws) out) (writeList k (listOf (shown form ts) h) (used form ts ws) out) (tells-unsound form ts) refl (λ u. bytes (entered-good form ts ws e u .sound))))
   where
     later : ℕ → ℕ → Type 0
-    later k = Answers (drop k (writeRows form ts ws h out))
+    later j = Answers (drop j (writeRows form k ts ws h out))
 
     sounding : Write
-    sounding = cond (unsound form ts) (notWritten UNSOUND (used form ts ws) out) (writeList (listOf (shown form ts) h) (used form ts ws) out)
+    sounding = cond (unsound form ts) (notWritten UNSOUND (used form ts ws) out) (writeList k (listOf (shown form ts) h) (used form ts ws) out)
 
     holding : Write
     holding = cond (noHolder form ts h) (notWritten HOLDER ws out) sounding
@@ -162,25 +154,23 @@ write-rows form ts ws h out =
     answered : (n : ℕ) (y : Write) → y .answer ≡ DONE → unless n (λ (m : ℕ). notWritten m (used form ts ws) out) y .answer ≡ n
     answered n y e = both-ways n (λ (m : ℕ). notWritten m (used form ts ws) out) y (λ (w : Write). w .answer ≡ n) (λ d. refl) (λ z. e ∙ sym z)
 
-    text : Sound (shown form ts) → later 4 (writeList (listOf (shown form ts) h) (used form ts ws) out .answer)
-    text s =
+    bytes : Sound (shown form ts) → later 4 (writeList k (listOf (shown form ts) h) (used form ts ws) out .answer)
+    bytes s =
         let (l, w) = denoted (shown form ts) s h in
         let e : listOf (shown form ts) h ≡ l = listOf-is (shown form ts) h l s w in
-        subst (λ (k : Lst). later 4 (writeList k (used form ts ws) out .answer)) (sym e)
-        (subst (later 4) (sym (answered (judgement l out) _ refl)) (rows l w (judged-answers (usable (length out)) (textOf l))))
+        subst (λ (j : Lst). later 4 (writeList k j (used form ts ws) out .answer)) (sym e)
+        (subst (later 4) (sym (answered (judged k (length out) l) _ refl)) (rows l w (judges k (length out) l)))
       where
-        rows : (l : Lst) → Has form ts h l
-            → (TooDeep (usable (length out)) (textOf l) × (judgement l out ≡ DEEP)) ⊎ ((TooDeep (usable (length out)) (textOf l) → ⊥) × (((usable (length out) < length (textOf l)) × (judgement l out ≡ OUTPUT)) ⊎ ((usable (length out) < length (textOf l) → ⊥) × (judgement l out ≡ DONE))))
-            → later 4 (judgement l out)
+        rows : (l : Lst) → Has form ts h l → Judged k (length out) l (judged k (length out) l) → later 4 (judged k (length out) l)
         rows l w (inl (d, e)) = inl ((l, w, d), e)
-        rows l w (inr (d, r)) = inr ((λ k. d (same (λ (m : Lst). TooDeep (usable (length out)) (textOf m)) k)), rest r)
+        rows l w (inr (d, r)) = inr ((λ n. d (same (TooDeep k (length out)) n)), rest r)
           where
             same : (P : Lst → Type 0) → (m : Lst) × Has form ts h m × P m → P l
-            same P (m, u, k) = subst P (ListAt-unique (shown form ts .cells) (holder (shown form ts) h) m l u w) k
+            same P (m, u, n) = subst P (ListAt-unique (shown form ts .cells) (holder (shown form ts) h) m l u w) n
 
-            rest : ((usable (length out) < length (textOf l)) × (judgement l out ≡ OUTPUT)) ⊎ ((usable (length out) < length (textOf l) → ⊥) × (judgement l out ≡ DONE)) → later 5 (judgement l out)
-            rest (inl (k, e)) = inl ((l, w, k), e)
-            rest (inr (k, e)) = inr ((λ n. k (same (λ (m : Lst). usable (length out) < length (textOf m)) n)), e)
+            rest : (TooLong k (length out) l × (judged k (length out) l ≡ OUTPUT)) ⊎ ((TooLong k (length out) l → ⊥) × (judged k (length out) l ≡ DONE)) → later 5 (judged k (length out) l)
+            rest (inl (n, e)) = inl ((l, w, n), e)
+            rest (inr (n, e)) = inr ((λ m. n (same (TooLong k (length out)) m)), e)
 
 -- a script
 
@@ -250,11 +240,13 @@ demand1 form = record {
   run-refusals = run-rows form;
   read-refusals = read-rows form;
   write-refusals = write-rows form;
+  move-refusals = move-rows form;
   check-refusals = check-answers;
   refused-set-up = λ ts n h. set-up-ways form ts n h (λ (g : Given). g .answer ≢ DONE → g .table ≡ ts) (λ e m. absurd (m refl)) (λ e m. refl);
   refused-run = run-refused form;
-  refused-read = λ ts ws h xs. read-ways form ts ws h xs (λ (r : Reading). r .answer ≢ DONE → (r .table ≡ ts) × (r .count ≡ 0)) (λ n us m _. (refl, refl)) (λ t m. absurd (m refl));
-  refused-write = λ ts ws h out. write-ways form ts ws h out (λ (r : Write). r .answer ≢ DONE → (r .output ≡ out) × (r .count ≡ 0)) (λ n us m _. (refl, refl)) (λ o l e j m. absurd (m refl));
+  refused-read = λ k ts ws h xs. read-ways form k ts ws h xs (λ (r : Reading). r .answer ≢ DONE → (r .table ≡ ts) × (r .count ≡ 0)) (λ n us m _. (refl, refl)) (λ t m. absurd (m refl));
+  refused-write = λ k ts ws h out. write-ways form k ts ws h out (λ (r : Write). r .answer ≢ DONE → (r .output ≡ out) × (r .count ≡ 0)) (λ n us m _. (refl, refl)) (λ o l e j m. absurd (m refl));
+  refused-move = refused-moves form;
   refused-check = check-refused;
   run-work = run-work form;
   read-work = read-work form;

@@ -10,18 +10,16 @@ use lib.Seq.{take-append-seam}
 use package.borrow.Author.Tests.{lt-leb, eq-eqb, ne-eqb}
 use Rattle.answers.specs.Answers.{DONE}
 use Rattle.lists.specs.Lst.{Lst, extent}
-use Rattle.pool.specs.Pool.{Pool, holder, ListAt, frees}
+use Rattle.pool.specs.Pool.{Pool, frees}
 use Rattle.pool.specs.Operations.{read}
 use Rattle.pool.specs.Script.{performed}
 use Rattle.pool.specs.laws.ScriptLaws.{allowed}
 use Rattle.table.specs.Limits.{holdersTold}
-use Rattle.text.specs.laws.Accepted.{taken-answer, accepted, accepted-size}
-use Rattle.text.specs.ListText.{textOf, written}
-use Rattle.text.specs.Marks.{listIn}
-use Rattle.text.specs.Text.{Answer, done, others, verdict}
+use Rattle.text.specs.Text.{Answer, others}
 use Rattle.text.specs.laws.Rest.{rest-refused, rest-blank, rest-more}
-use Rattle.text.specs.Writing.{usable}
-use Rattle.text.specs.laws.WritingLaws.{writes, written-read, read-written}
+use Rattle.groups.specs.Stored.{verdict, listIn, bytesOf, judged}
+use Rattle.groups.specs.declared.Stored.{Stored}
+use Rattle.groups.specs.declared.Stored.the-variants.{Text}
 use Rattle.calls.specs.Entry.{workWords, badTable, entryFault, noHolder, shown, unsound, stored, used, over}
 use Rattle.calls.specs.Run.{Ran, operations, ranIn}
 use Rattle.calls.specs.laws.EntryLaws.{entry-tests, passed}
@@ -29,10 +27,10 @@ use Rattle.calls.specs.Read.{Read as Reading, readingIn}
 use Rattle.calls.specs.Write.{Write, writeList, writingIn}
 use Rattle.promises.specs.Engine.{ours}
 use Rattle.table.specs.Limits.{cellsTold}
-use Rattle.promises.specs.TextGrounds.{Has, TakesRecords, plain, Records}
+use Rattle.promises.specs.StoredGrounds.{Has, Spells, spelling, Anew}
 use Rattle.promises.specs.Machine.{Lists, assign, turn, turnAll, Says}
 use Rattle.promises.specs.Demand1.{wordsOf}
-use Rattle.promises.specs.Demand2.{Holds, filled, Ready, Demand2, OperationsGive, OthersStay, ScriptsGive, ReadingGives, CheckingGives, RestGives, WritingGives, WrittenReadsBack, ReadWritesBack}
+use Rattle.promises.specs.Demand2.{Holds, Ready, Demand2, OperationsGive, OthersStay, ScriptsGive, ReadingGives, CheckingGives, RestGives, WritingGives, WrittenReadsBack, ReadWritesBack}
 use Rattle.promises.specs.laws.TestsTell.{shown-holders, tells-table, tells-unsound, cells-told}
 use Rattle.promises.specs.laws.TextRows.{check-takes}
 use Rattle.promises.specs.laws.OperationLaws.{HoldsIn, operation-does, assigned}
@@ -40,16 +38,18 @@ use Rattle.promises.specs.laws.Tables.{Good, good, stored-good, good-tab
 use Rattle.promises.specs.laws.RunLaws.{passed-good, run-ways}
 use Rattle.promises.specs.laws.ScriptDoes.{script-does, turn-other}
 use Rattle.promises.specs.laws.ReadLaws.{Taken, filledIn, read-ways, takes, read-pool}
-use Rattle.promises.specs.laws.WriteLaws.{Opened, opened-good, opens, listOf-is, judgement, write-ways}
+use Rattle.promises.specs.laws.WriteLaws.{Opened, opened-good, opens, listOf-is, write-ways}
 use Rattle.promises.specs.laws.OneOperation.{one-accepted, effect-stored}
-use Rattle.promises.specs.laws.Invariant.{ran-stored, read-stored, read-alike}
+use Rattle.promises.specs.laws.Invariant.{ran-stored, read-stored, read-alike, read-has}
 use Rattle.promises.specs.kept.CellsDo.{sizes-stay, holders-stay, prefix-takes, prefix-list-takes, decap-frees, adv-erases, borrow-shares, erase-erases}
 use Rattle.promises.specs.kept.LevelsDo.{inv-turns-cells, cinv-copies-cells, conc-joins-cells, asking-leaves, reading-uses}
 use Rattle.promises.specs.kept.CellsStay.{live-cells-stay}
 use Rattle.promises.specs.kept.SetUpDoes.{set-up-gives}
-use Rattle.promises.specs.laws.TextEnds.{plain-records}
-use Rattle.promises.specs.laws.TextOnce.{spells-ours}
-use Rattle.promises.specs.laws.Atoms.{word-atoms}
+use Rattle.promises.specs.laws.TextOnce as text
+use Rattle.promises.specs.laws.StoredRows.{spells-ours}
+use Rattle.promises.specs.laws.StoredTrips.{spelt, accepted-size, shallow-writes, written-read, read-written, written-anew}
+use Rattle.promises.specs.laws.Atoms.{word-fits}
+use Rattle.promises.specs.kept.MoveDoes.{read-alike-forms, moves-give, goes-home, as-tables}
 use Rattle.table.specs.declared.Form.{Form}
 
 -- operations and scripts
@@ -78,40 +78,36 @@ script-gives form ts ws ss rs m k =
 
 -- reading and writing
 
-read-holds : (form : Form) → (ts ws : List ℕ) (h : ℕ) (xs : List ℕ) (m : Lists) → Holds form ts m → Taken form ts ws h xs → Holds form (filledIn form ts ws h xs .table) (assign m h (listIn xs))
-read-holds form ts ws h xs m k t =
-    let d = read-pool form ts ws h xs t in
-    subst (λ (q : Pool). HoldsIn q (assign m h (listIn xs))) (sym (read-stored form t .shows))
-    (assigned (read (shown form ts) h (listIn xs)) m h (listIn xs) (d .gets) (λ i n. d .others i (m i) n (k i)))
-
--- the list of a text that is taken
-text-list : (xs : List ℕ) → verdict xs .no ≡ DONE → (t : List ℕ) × Records xs (verdict xs .taken) t × (textOf (listIn xs) ≡ plain t)
-text-list xs e = spells-ours xs e .1
+read-holds : (form : Form) (b : Stored) (ts ws : List ℕ) (h : ℕ) (xs : List ℕ) (m : Lists) → Holds form ts m → Taken form b ts ws h xs → Holds form (filledIn form b ts ws h xs .table) (assign m h (listIn b xs))
+read-holds form b ts ws h xs m k t =
+    let d = read-pool form b ts ws h xs t in
+    subst (λ (q : Pool). HoldsIn q (assign m h (listIn b xs))) (sym (read-stored form t .shows))
+    (assigned (read (shown form ts) h (listIn b xs)) m h (listIn b xs) (d .gets) (λ i n. d .others i (m i) n (k i)))
 
 reading : (form : Form) → ReadingGives form (ours form)
-reading form ts ws h xs m k =
-    read-ways form ts ws h xs (λ (r : Reading). r .answer ≡ DONE → (l : Lst) × (t : List ℕ) × Records xs (r .count) t × (textOf l ≡ plain t) × Holds form (r .table) (assign m h l)) (λ n us d e. absurd (d e))
-    (λ t e. let (u, r, q) = text-list xs (t .right) in (listIn xs, u, r, q, read-holds form ts ws h xs m k t))
+reading form b ts ws h xs m k =
+    read-ways form b ts ws h xs (λ (r : Reading). r .answer ≡ DONE → (l : Lst) × Spells b xs (r .count) l × Holds form (r .table) (assign m h l)) (λ n us d e. absurd (d e))
+    (λ t e. (listIn b xs, spells-ours b xs (t .right), read-holds form b ts ws h xs m k t))
 
 checking : (form : Form) → CheckingGives (ours form)
-checking form xs e = let (t, r, q) = text-list xs e in (listIn xs, t, r, q)
+checking form xs e = let (t, r, q) = text.spells-ours xs e .1 in (listIn Text xs, t, r, q)
 
 after-list : (form : Form) → RestGives (ours form)
 after-list form xs =
-    let left = others (drop (verdict xs .taken) xs) in
+    let left = others (drop (verdict Text xs .taken) xs) in
     ((λ e more. rest-more xs e (ne-eqb left 0 more)), (λ e none. rest-blank xs e (eq-eqb left 0 none)), rest-refused xs)
 
-abbrev writing : (form : Form) → List ℕ → List ℕ → Lst → List ℕ → Write
-writing form ts ws l out = record { answer = DONE; count = length (written l); work = used form ts ws; output = over (written l) out }
+abbrev writing : (form : Form) → Stored → List ℕ → List ℕ → Lst → List ℕ → Write
+writing form b ts ws l out = record { answer = DONE; count = length (bytesOf b l); work = used form ts ws; output = over (bytesOf b l) out }
 
-writes-list : (form : Form) → (ts ws : List ℕ) (h : ℕ) (out : List ℕ) (l : Lst) → Opened form ts ws h → Has form ts h l → judgement l out ≡ DONE → writingIn form ts ws h out ≡ writing form ts ws l out
-writes-list form ts ws h out l o w j =
-    opens form ts ws h out o ∙ ap (λ (k : Lst). writeList k (used form ts ws) out) (listOf-is (shown form ts) h l (opened-good form o .sound) w) ∙ rw (eq-eqb (judgement l out) DONE j)
+writes-list : (form : Form) (b : Stored) (ts ws : List ℕ) (h : ℕ) (out : List ℕ) (l : Lst) → Opened form ts ws h → Has form ts h l → judged b (length out) l ≡ DONE → writingIn form b ts ws h out ≡ writing form b ts ws l out
+writes-list form b ts ws h out l o w j =
+    opens form b ts ws h out o ∙ ap (λ (k : Lst). writeList b k (used form ts ws) out) (listOf-is (shown form ts) h l (opened-good form o .sound) w) ∙ rw (eq-eqb (judged b (length out) l) DONE j)
 
 written-out : (form : Form) → WritingGives form (ours form)
-written-out form ts ws h out l w =
-    write-ways form ts ws h out (λ (r : Write). r .answer ≡ DONE → (r .output ≡ over (filled (textOf l)) out) × (r .count ≡ length (filled (textOf l)))) (λ n us d e. absurd (d e))
-    (λ o k e j _. let q : k ≡ l = sym e ∙ listOf-is (shown form ts) h l (opened-good form o .sound) w in (ap (λ (z : Lst). over (written z) out) q, ap (λ (z : Lst). length (written z)) q))
+written-out form b ts ws h out l w =
+    write-ways form b ts ws h out (λ (r : Write). r .answer ≡ DONE → (r .output ≡ over (spelling b l) out) × (r .count ≡ length (spelling b l))) (λ n us d e. absurd (d e))
+    (λ o k e j _. let q : bytesOf b k ≡ spelling b l = ap (bytesOf b) (sym e ∙ listOf-is (shown form ts) h l (opened-good form o .sound) w) ∙ sym (spelt b l) in (ap (λ (z : List ℕ). over z out) q, ap length q))
 
 -- a table lent with work space enough passes the first tests
 ready-good : (form : Form) → {ts ws : List ℕ} → Ready form ts ws → Good form ts
@@ -126,52 +122,45 @@ below : (form : Form) → (ts : List ℕ) (h : ℕ) → h < length (shown form t
 below form ts h l = lt-leb (holdersTold form ts) h (subst (λ (n : ℕ). h < n) (shown-holders form ts) l)
 
 back-again : (form : Form) → WrittenReadsBack form (ours form)
-back-again form ts ws out us vs h k l b t lh w d f u lk z room =
+back-again form b ts ws out us vs h k l words t lh w d f u lk z room =
     let g = ready-good form t in
-    let j = writes (usable (length out)) l d f in
-    let e = writes-list form ts ws h out l (record { entry = ready-work form ts ws g (t .work); held = below form ts h lh; sound = good-sound form ts g }) w j in
-    let (_, right, same) = written-read (length out) l (word-atoms form ts h l b w) j in
-    let xs = written l in
+    let j = shallow-writes b (length out) l d f in
+    let e = writes-list form b ts ws h out l (record { entry = ready-work form ts ws g (t .work); held = below form ts h lh; sound = good-sound form ts g }) w j in
+    let (right, same) = written-read b (length out) l (word-fits form ts h l words g w) j in
+    let xs = bytesOf b l in
     let i = ready-good form u in
-    let takes-it : Taken form us vs k xs = record {
-      entered = record { entry = ready-work form us vs i (u .work); held = below form us k lk; size = accepted-size xs (length xs) right .0; sound = good-sound form us i };
+    let takes-it : Taken form b us vs k xs = record {
+      entered = record { entry = ready-work form us vs i (u .work); held = below form us k lk; size = accepted-size b xs (length xs) right; sound = good-sound form us i };
       vacant = z;
       right = ap (λ (a : Answer). a .no) right;
       room = subst (λ (m : Lst). extent m ≤ frees (shown form us .cells)) (sym same) room;
     } in
     let cut : take (length xs) (over xs out) ≡ xs = take-append-seam xs (drop (length xs) out) in
-    subst (λ (y : Write). let r = readingIn form us vs k (take (y .count) (y .output)) in (y .answer ≡ DONE) × (r .answer ≡ DONE) × (r .count ≡ y .count) × Has form (r .table) k l) (sym e)
-    (subst (λ (ys : List ℕ). let r = readingIn form us vs k ys in (DONE ≡ DONE) × (r .answer ≡ DONE) × (r .count ≡ length xs) × Has form (r .table) k l) (sym cut)
-    (subst (λ (r : Reading). (DONE ≡ DONE) × (r .answer ≡ DONE) × (r .count ≡ length xs) × Has form (r .table) k l) (sym (takes form us vs k xs takes-it))
-    (refl, refl, ap (λ (a : Answer). a .taken) right, subst (Has form (filledIn form us vs k xs .table) k) same (holds us vs k xs takes-it))))
-  where
-    holds : (us vs : List ℕ) (k : ℕ) (xs : List ℕ) → Taken form us vs k xs → Has form (filledIn form us vs k xs .table) k (listIn xs)
-    holds us vs k xs t = subst (λ (q : Pool). ListAt (q .cells) (holder q k) (listIn xs)) (sym (read-stored form t .shows)) (read-pool form us vs k xs t .gets)
+    subst (λ (y : Write). let r = readingIn form b us vs k (take (y .count) (y .output)) in (y .answer ≡ DONE) × (r .answer ≡ DONE) × (r .count ≡ y .count) × Has form (r .table) k l) (sym e)
+    (subst (λ (ys : List ℕ). let r = readingIn form b us vs k ys in (DONE ≡ DONE) × (r .answer ≡ DONE) × (r .count ≡ length xs) × Has form (r .table) k l) (sym cut)
+    (subst (λ (r : Reading). (DONE ≡ DONE) × (r .answer ≡ DONE) × (r .count ≡ length xs) × Has form (r .table) k l) (sym (takes form b us vs k xs takes-it))
+    (refl, refl, ap (λ (a : Answer). a .taken) right, subst (Has form (filledIn form b us vs k xs .table) k) same (read-has form takes-it))))
 
 -- the holders that are shown are as many as before
 held-as : (form : Form) → (ts us : List ℕ) (q : Pool) (h : ℕ) → shown form us ≡ q → length (q .holders) ≡ length (shown form ts .holders) → noHolder form ts h ≡ false → noHolder form us h ≡ false
 held-as form ts us q h e l n = ap (λ (k : ℕ). leb k h) (sym (shown-holders form us) ∙ ap (λ (p : Pool). length (p .holders)) e ∙ l ∙ shown-holders form ts) ∙ n
 
 out-again : (form : Form) → ReadWritesBack (ours form)
-out-again form ts ws vs out h xs t =
-    read-ways form ts ws h xs (λ (r : Reading). r .answer ≡ DONE → Records xs (r .count) t → workWords * cellsTold ts ≤ length vs → r .count ≤ length out → let w = writingIn form (r .table) vs h out in (w .answer ≡ DONE) × (w .output ≡ over (filled (plain t)) out))
+out-again form b ts ws vs out h xs bs =
+    read-ways form b ts ws h xs (λ (r : Reading). r .answer ≡ DONE → Anew b xs (r .count) bs → workWords * cellsTold ts ≤ length vs → r .count ≤ length out → let w = writingIn form b (r .table) vs h out in (w .answer ≡ DONE) × (w .output ≡ over bs out))
     (λ n us d e. absurd (d e))
     (λ k _. go k)
   where
-    go : Taken form ts ws h xs → Records xs (verdict xs .taken) t → workWords * cellsTold ts ≤ length vs → verdict xs .taken ≤ length out → let w = writingIn form (filledIn form ts ws h xs .table) vs h out in (w .answer ≡ DONE) × (w .output ≡ over (filled (plain t)) out)
+    go : Taken form b ts ws h xs → Anew b xs (verdict b xs .taken) bs → workWords * cellsTold ts ≤ length vs → verdict b xs .taken ≤ length out → let w = writingIn form b (filledIn form b ts ws h xs .table) vs h out in (w .answer ≡ DONE) × (w .output ≡ over bs out)
     go k c v f =
-        let q = read (shown form ts) h (listIn xs) in
+        let q = read (shown form ts) h (listIn b xs) in
         let us = stored form ts q in
         let st = read-stored form k in
-        let d = read-pool form ts ws h xs k in
-        let g = stored-good form ts q st (d .sound) in
-        let m = verdict xs .taken in
-        let right = taken-answer (verdict xs) (k .right) in
+        let g = stored-good form ts q st (read-pool form b ts ws h xs k .sound) in
         let told = cells-told form ts (entry-tests workWords form ts (length ws) (k .entered .entry) .0) in
-        let o : Opened form us vs h = record { entry = passed (g .table) workWords (length vs) (omega (arith, st .cells, told)); held = held-as form ts us q h (st .shows) (read-alike (shown form ts) h (listIn xs) .holders) (k .entered .held); sound = good-sound form us g } in
-        let w : Has form us h (listIn xs) = subst (λ (p : Pool). ListAt (p .cells) (holder p h) (listIn xs)) (sym (st .shows)) (d .gets) in
-        let e = writes-list form us vs h out (listIn xs) o w (read-written xs m (length out) right f) in
-        (ap (λ (y : Write). y .answer) e, ap (λ (y : Write). y .output) e ∙ ap (λ (y : List ℕ). over (filled y) out) (accepted xs m right .1 ∙ plain-records xs m t c))
+        let o : Opened form us vs h = record { entry = passed (g .table) workWords (length vs) (omega (arith, st .cells, told)); held = held-as form ts us q h (st .shows) (read-alike (shown form ts) h (listIn b xs) .holders) (k .entered .held); sound = good-sound form us g } in
+        let e = writes-list form b us vs h out (listIn b xs) o (read-has form k) (read-written b xs (length out) (k .right) f) in
+        (ap (λ (y : Write). y .answer) e, ap (λ (y : Write). y .output) e ∙ ap (λ (y : List ℕ). over y out) (written-anew b xs bs (k .right) c))
 
 pub demand2 : (form : Form) → Demand2 form (ours form)
 demand2 form = record {
@@ -194,11 +183,14 @@ demand2 form = record {
   scripts-give = script-gives form;
   reading-gives = reading form;
   reading-uses-its-cells = reading-uses form;
+  forms-read-alike = read-alike-forms form;
   checking-gives = checking form;
   checking-takes = check-takes;
-  reading-takes = λ ts ws h xs. read-ways form ts ws h xs (λ (r : Reading). r .answer ≡ DONE → TakesRecords xs (r .count)) (λ n us d e. absurd (d e)) (λ t e. check-takes xs (t .right));
   rest-gives = after-list form;
   writing-gives = written-out form;
   written-reads-back = back-again form;
   read-writes-back = out-again form;
+  moving-gives = moves-give form;
+  moves-home = goes-home form;
+  moves-as-tables = as-tables form;
 }

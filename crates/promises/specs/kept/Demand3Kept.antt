@@ -1,10 +1,10 @@
 -- Our engine keeps demand 3: its tables stay sound, and the laws of sound pools are what the demand says.
 use mathlib.Core.Path.{_≡_, refl, sym, ap, _∙_, subst}
 use mathlib.Core.Logic.{_⊎_, inl, inr, _↔_}
-use mathlib.Core.List.{List, [], _∷_}
+use mathlib.Core.List.{List, [], _∷_, _++_}
 use Prim.Native.Nat.{ℕ, _+_, _<_}
 use native.Mathlib.Omega.{arith}
-use lib.ListN.{length, getD, drop}
+use lib.ListN.{length, getD, take}
 use Rattle.answers.specs.Answers.{DONE}
 use Rattle.lists.specs.Lst.{Lst, extent}
 use Rattle.pool.specs.Pool.{Pool, Live, lives, frees, Sound}
@@ -20,7 +20,7 @@ use Rattle.calls.specs.Read.{readingIn}
 use Rattle.promises.specs.Engine.{ours}
 use Rattle.promises.specs.Rows.{None}
 use Rattle.promises.specs.Grounds.{NoRoom, entryRows}
-use Rattle.promises.specs.TextGrounds.{beforeReading, readRows, Spells}
+use Rattle.promises.specs.StoredGrounds.{atReading, faultRows, intoRows, roomRows, Spells}
 use Rattle.promises.specs.Demand1.{wordsOf}
 use Rattle.promises.specs.Demand3.{Free, Used, OnlyBy, erasing, Lent, Demand3, NoRoomToPerform, NoRoomToRead}
 use Rattle.promises.specs.laws.Tells.{passed-over, last-row, none-answered}
@@ -29,11 +29,12 @@ use Rattle.promises.specs.laws.OperationRows.{room-answers}
 use Rattle.promises.specs.laws.Tables.{Good, good, good-table, good-sound, fails}
 use Rattle.promises.specs.laws.RunLaws.{Passed, runs}
 use Rattle.promises.specs.laws.ScriptDoes.{one-answer}
-use Rattle.promises.specs.laws.TextOnce.{spells-once}
+use Rattle.promises.specs.laws.StoredRows.{spells-once}
 use Rattle.promises.specs.laws.OneOperation.{one-accepted, effect-stored}
 use Rattle.promises.specs.laws.Invariant.{reached-good}
 use Rattle.promises.specs.laws.FreeCells.{free-or-live, live-not-free, used-live, live-used, number-used, Number-unique, erase-frees-cells}
 use Rattle.promises.specs.kept.Demand1Kept.{one-fits, demand1}
+use Rattle.groups.specs.declared.Stored.{Stored}
 use Rattle.table.specs.declared.Form.{Form}
 
 abbrev erasure : ℕ → ℕ → ℕ → Operation
@@ -80,13 +81,21 @@ room-run form ts ws rs o k n r w l b c d =
     either-end ((λ q. a .0 (sym e ∙ q)), (λ q. e ∙ a .1 q)) (either-end m (room-counted (shown form ts) (g .sound) k n c))
 
 room-read : (form : Form) → NoRoomToRead form (ours form)
-room-read form ts ws h xs k m l r w n s v f c spelt =
+room-read form b ts ws h xs k m l r w n s v f c spelt =
     let g = lent-good form r in
-    let b : None (beforeReading form ts ws h xs) = (tells-table form ts .1 (good-table form ts g), (w, (n, (s .0, (s .1 .0, ((λ u. u (g .sound)), ((λ u. u v), f))))))) in
-    let a = last-row (λ z. omega arith) (passed-over (beforeReading form ts ws h xs) (drop 10 (readRows form ts ws h xs)) (λ m. m ≡ DONE) (readingIn form ts ws h xs .answer) b (demand1 form .read-refusals ts ws h xs)) in
-    let told : ((j : ℕ) × (i : Lst) × Spells xs j i × (frees (shown form ts .cells) < extent i)) ↔ (frees (shown form ts .cells) < extent l)
-    = ((λ (j, i, d, e). subst (λ (u : Lst). frees (shown form ts .cells) < extent u) (spells-once xs j m i l d spelt .1) e), (λ e. (m, l, spelt, e))) in
+    let entered : None (atReading form b ts ws h xs) = (tells-table form ts .1 (good-table form ts g), (w, (n, s))) in
+    let at-bytes = passed-over (atReading form b ts ws h xs) (intoRows form b ts h xs) done? (answer form b ts ws h xs) entered (demand1 form .read-refusals b ts ws h xs) in
+    let at-faults = passed-over (take 2 (intoRows form b ts h xs)) (faultRows b xs ++ roomRows form b ts xs) done? (answer form b ts ws h xs) ((λ u. u (g .sound)), ((λ u. u v), tt)) at-bytes in
+    let a = last-row (λ z. omega arith) (passed-over (faultRows b xs) (roomRows form b ts xs) done? (answer form b ts ws h xs) f at-faults) in
+    let told : ((j : ℕ) × (i : Lst) × Spells b xs j i × (frees (shown form ts .cells) < extent i)) ↔ (frees (shown form ts .cells) < extent l)
+    = ((λ (j, i, d, e). subst (λ (u : Lst). frees (shown form ts .cells) < extent u) (spells-once b xs j m i l d spelt .1) e), (λ e. (m, l, spelt, e))) in
     either-end a (either-end told (room-counted (shown form ts) (g .sound) k (extent l) c))
+  where
+    done? : ℕ → Type 0
+    done? m = m ≡ DONE
+
+    answer : (form : Form) (b : Stored) (ts ws : List ℕ) (h : ℕ) (xs : List ℕ) → ℕ
+    answer form b ts ws h xs = readingIn form b ts ws h xs .answer
 
 pub demand3 : (form : Form) → Demand3 form (ours form)
 demand3 form = record {

@@ -23,20 +23,20 @@ use Rattle.pool.specs.laws.Chains.{Chain-once}
 use Rattle.pool.specs.Script.{INV, CINV, CONC, FIRST, LENGTH, Operation, effect}
 use Rattle.pool.specs.laws.ScriptLaws.{Allowed, a-holder, b-holder}
 use Rattle.pool.specs.laws.TallyLaws.{Same, eq, ne, same?}
-use Rattle.text.specs.Marks.{listIn}
+use Rattle.groups.specs.Stored.{listIn}
 use Rattle.table.specs.Limits.{holdersTold}
 use Rattle.calls.specs.Entry.{shown, stored}
 use Rattle.calls.specs.Read.{Read as Reading}
 use Rattle.promises.specs.Engine.{ours}
 use Rattle.promises.specs.Rows.{OneOf}
-use Rattle.promises.specs.TextGrounds.{Spells}
+use Rattle.promises.specs.StoredGrounds.{Spells}
 use Rattle.promises.specs.Cells.{nth, endOf, sublist, Turned, InvTurns, Copied, CinvCopies, Joined, ConcJoins, AskingLeaves, asking, ReadIn, ReadingUsesItsCells}
 use Rattle.promises.specs.laws.OneOperation.{one-accepted}
 use Rattle.promises.specs.laws.Tables.{stored-same}
 use Rattle.promises.specs.laws.Levels.{nth-occ, nth-other, nth-apart, chain-has, chain-first, chain-next, AllLive, live-first, live-later, level-of, all-free, free-length, flip-cells, last-cell, last-live}
 use Rattle.promises.specs.laws.CopyCells.{map-same, LiveItems, copy-cells}
 use Rattle.promises.specs.laws.LoadCells.{load-cells}
-use Rattle.promises.specs.laws.TextOnce.{spells-once, spells-ours}
+use Rattle.promises.specs.laws.StoredRows.{spells-once, spells-ours}
 use Rattle.promises.specs.laws.ReadLaws.{reading-good, read-ways}
 use Rattle.promises.specs.laws.Invariant.{read-alike, read-stored}
 use Rattle.table.specs.declared.Form.{Form}
@@ -180,15 +180,15 @@ read-in p h l s lh room fs c =
     }
 
 pub reading-uses : (form : Form) → ReadingUsesItsCells form (ours form)
-reading-uses form ts ws h xs =
-    read-ways form ts ws h xs
-    (λ (r : Reading). r .answer ≡ DONE → (l : Lst) (fs : List ℕ) → Spells xs (r .count) l → Chain (shown form ts .cells) (shown form ts .free) fs
+reading-uses form k ts ws h xs =
+    read-ways form k ts ws h xs
+    (λ (r : Reading). r .answer ≡ DONE → (l : Lst) (fs : List ℕ) → Spells k xs (r .count) l → Chain (shown form ts .cells) (shown form ts .free) fs
     → ReadIn l fs h (shown form ts) (shown form (r .table)))
     (λ n us d e. absurd (d e))
     (λ t _ l fs w c.
-    let g = reading-good form ts ws h xs (t .entered) in
+    let g = reading-good form k ts ws h xs (t .entered) in
     let below = leb-false (holdersTold form ts) h (t .entered .held) in
-    let same-list : listIn xs ≡ l = spells-once xs _ _ (listIn xs) l (spells-ours xs (t .right)) w .1 in
+    let same-list : listIn k xs ≡ l = spells-once k xs _ _ (listIn k xs) l (spells-ours k xs (t .right)) w .1 in
     subst (λ (q : Pool). ReadIn l fs h (shown form ts) q) (sym (read-stored form t .shows))
-    (subst (λ (k : Lst). ReadIn k fs h (shown form ts) (read (shown form ts) h (listIn xs))) same-list
-    (read-in (shown form ts) h (listIn xs) (g .sound) (omega (arith, g .table .held)) (t .room) fs c)))
+    (subst (λ (j : Lst). ReadIn j fs h (shown form ts) (read (shown form ts) h (listIn k xs))) same-list
+    (read-in (shown form ts) h (listIn k xs) (g .sound) (omega (arith, g .table .held)) (t .room) fs c)))

@@ -1,7 +1,7 @@
 -- The work space after each of our calls: a test that stands before its use leaves it as lent, and all else leaves it used.
-use mathlib.Core.Path.{_≡_, refl, ap}
+use mathlib.Core.Path.{_≡_, refl, ap, subst}
 use mathlib.Core.Bool.{Bool, true, false, cond, not}
-use mathlib.Core.List.{List, [], _∷_, _++_}
+use mathlib.Core.List.{List, [], _∷_, _++_, append-nil}
 use Prim.Native.Nat.{ℕ, _*_}
 use lib.Dec.{eqb, ltb}
 use lib.ListN.{length}
@@ -11,8 +11,7 @@ use Rattle.lists.specs.Lst.{extent}
 use Rattle.pool.specs.Pool.{holder, frees}
 use Rattle.pool.specs.Operations.{listOf}
 use Rattle.table.specs.Sizes.{cleared}
-use Rattle.text.specs.Marks.{listIn}
-use Rattle.text.specs.Text.{sizeFault, verdict}
+use Rattle.groups.specs.Stored.{sizeFault, verdict, listIn, judged}
 use Rattle.calls.specs.Entry.{workWords, entryFault, noHolder, shown, unsound, used}
 use Rattle.calls.specs.laws.EntryLaws.{entry-tests}
 use Rattle.calls.specs.Run.{Ran, scriptFault, notRun, ranIn}
@@ -21,13 +20,13 @@ use Rattle.calls.specs.Write.{Write, notWritten, writeList, writingIn}
 use Rattle.promises.specs.Engine.{ours}
 use Rattle.promises.specs.Rows.{Row, row, Answers}
 use Rattle.promises.specs.Grounds.{NoHolder, entryRows, scriptRows}
-use Rattle.promises.specs.TextGrounds.{sizeRows}
+use Rattle.promises.specs.StoredGrounds.{sizeRows}
 use Rattle.promises.specs.Demand1.{WorkSpace, RunWork, ReadWork, WriteWork}
 use Rattle.promises.specs.laws.Tells.{Tells, Each, none-answered, answered-none, none-both}
-use Rattle.promises.specs.laws.TestsTell.{cells-told, entry-answers, entry-each, script-answers, script-each, size-answers, size-each, tells-holder}
+use Rattle.promises.specs.laws.TestsTell.{cells-told, entry-answers, entry-each, script-answers, script-each, tells-holder}
+use Rattle.promises.specs.laws.StoredRows.{size-answers, size-each}
 use Rattle.promises.specs.laws.RunLaws.{whole}
 use Rattle.promises.specs.laws.ReadLaws.{filledIn}
-use Rattle.promises.specs.laws.WriteLaws.{judgement}
 use Rattle.table.specs.declared.Form.{Form}
 
 -- one test before the use
@@ -69,28 +68,32 @@ of-read r = r .work
 
 pub read-work : (form : Form) → ReadWork form (ours form)
 unfolding readingIn
-read-work form ts ws h xs =
-    kept-unless of-read ts ws (entryRows workWords form ts ws) (row HOLDER (NoHolder (shown form ts) h) ∷ sizeRows xs) (entryFault workWords form ts (length ws)) refuse _ (entry-each workWords form ts ws) (entry-answers workWords form ts ws) refl (λ e.
-    kept of-read ts ws (sizeRows xs) (noHolder form ts h) HOLDER (notRead HOLDER ts ws) _ (tells-holder form ts h) refl (λ _.
-    kept-unless of-read ts ws (sizeRows xs) [] (sizeFault xs) refuse _ (size-each xs) (size-answers xs) refl (λ _.
-    spent form ts ws _ e (either of-read (unsound form ts) (notRead UNSOUND ts (used form ts ws)) (readInto form ts ws h xs) refl into))))
+read-work form k ts ws h xs =
+    kept-unless of-read ts ws (entryRows workWords form ts ws) (row HOLDER (NoHolder (shown form ts) h) ∷ sizeRows k xs) (entryFault workWords form ts (length ws)) refuse _ (entry-each workWords form ts ws) (entry-answers workWords form ts ws) refl (λ e.
+    kept of-read ts ws (sizeRows k xs) (noHolder form ts h) HOLDER (notRead HOLDER ts ws) _ (tells-holder form ts h) refl (λ _.
+    subst (λ (rs : List Row). WorkSpace rs ts ws (of-read (unless (sizeFault k xs) refuse sounding))) (append-nil (sizeRows k xs))
+    (kept-unless of-read ts ws (sizeRows k xs) [] (sizeFault k xs) refuse sounding (size-each k xs) (size-answers k xs) refl (λ _.
+    spent form ts ws _ e (either of-read (unsound form ts) (notRead UNSOUND ts (used form ts ws)) (readInto form k ts ws h xs) refl into)))))
   where
     refuse : ℕ → Read
     refuse n = notRead n ts ws
 
-    into : readInto form ts ws h xs .work ≡ used form ts ws
+    sounding : Read
+    sounding = cond (unsound form ts) (notRead UNSOUND ts (used form ts ws)) (readInto form k ts ws h xs)
+
+    into : readInto form k ts ws h xs .work ≡ used form ts ws
     into =
         either of-read (not (eqb (holder (shown form ts) h) 0)) (notRead OCCUPIED ts (used form ts ws)) _ refl
-        (either of-read (eqb (verdict xs .no) DONE) _ (notRead (verdict xs .no) ts (used form ts ws))
-        (either of-read (ltb (frees (shown form ts .cells)) (extent (listIn xs))) (notRead NO-ROOM ts (used form ts ws)) (filledIn form ts ws h xs) refl refl) refl)
+        (either of-read (eqb (verdict k xs .no) DONE) _ (notRead (verdict k xs .no) ts (used form ts ws))
+        (either of-read (ltb (frees (shown form ts .cells)) (extent (listIn k xs))) (notRead NO-ROOM ts (used form ts ws)) (filledIn form k ts ws h xs) refl refl) refl)
 
 abbrev of-write : Write → List ℕ
 of-write r = r .work
 
 pub write-work : (form : Form) → WriteWork form (ours form)
 unfolding writingIn
-write-work form ts ws h out =
+write-work form k ts ws h out =
     kept-unless of-write ts ws (entryRows workWords form ts ws) (row HOLDER (NoHolder (shown form ts) h) ∷ []) (entryFault workWords form ts (length ws)) (λ n. notWritten n ws out) _ (entry-each workWords form ts ws) (entry-answers workWords form ts ws) refl (λ e.
     kept of-write ts ws [] (noHolder form ts h) HOLDER (notWritten HOLDER ws out) _ (tells-holder form ts h) refl (λ _.
-    spent form ts ws _ e (either of-write (unsound form ts) (notWritten UNSOUND (used form ts ws) out) (writeList (listOf (shown form ts) h) (used form ts ws) out) refl
-    (either of-write (eqb (judgement (listOf (shown form ts) h) out) DONE) _ (notWritten (judgement (listOf (shown form ts) h) out) (used form ts ws) out) refl refl))))
+    spent form ts ws _ e (either of-write (unsound form ts) (notWritten UNSOUND (used form ts ws) out) (writeList k (listOf (shown form ts) h) (used form ts ws) out) refl
+    (either of-write (eqb (judged k (length out) (listOf (shown form ts) h)) DONE) _ (notWritten (judged k (length out) (listOf (shown form ts) h)) (used form ts ws) out) refl refl))))

@@ -1,5 +1,5 @@
 -- Every table that our calls can make is a table of its shape, and sound. By induction on the calls.
-use mathlib.Core.Path.{_≡_, refl, _∙_, subst}
+use mathlib.Core.Path.{_≡_, refl, sym, _∙_, subst}
 use mathlib.Core.Logic.{_≢_}
 use mathlib.Core.List.{List}
 use Prim.Native.Nat.{ℕ}
@@ -7,14 +7,15 @@ use native.Mathlib.Omega.{arith}
 use lib.ListN.{length, length-set}
 use Rattle.answers.specs.Answers.{DONE}
 use Rattle.lists.specs.Lst.{Lst, nil, atom, list}
-use Rattle.pool.specs.Pool.{Cell, Pool, nextOf}
+use Rattle.pool.specs.Pool.{Cell, Pool, nextOf, holder, ListAt}
 use Rattle.pool.specs.laws.Edit.{put-length}
 use Rattle.pool.specs.Operations.{load, read}
 use Rattle.pool.specs.Script.{performed}
 use Rattle.pool.specs.laws.Lengths.{Alike}
 use Rattle.pool.specs.laws.ScriptLaws.{performed-sound, performed-alike}
 use Rattle.table.specs.View.{shape}
-use Rattle.text.specs.Marks.{listIn}
+use Rattle.groups.specs.Stored.{listIn}
+use Rattle.groups.specs.declared.Stored.{Stored as Kind}
 use Rattle.calls.specs.SetUp.{Given, setUpIn}
 use Rattle.setup.specs.laws.SetUpLaws.{accepted, set-up-ways, set-up-new}
 use Rattle.calls.specs.Entry.{shown}
@@ -23,7 +24,8 @@ use Rattle.calls.specs.Read.{Read as Reading, readingIn}
 use Rattle.promises.specs.Engine.{ours, Reached, made, setAgain, ranOn, readInto}
 use Rattle.promises.specs.laws.Tables.{Good, shape-good, Stored, stores, stored-good}
 use Rattle.promises.specs.laws.RunLaws.{Passed, passed-good, run-ways}
-use Rattle.promises.specs.laws.ReadLaws.{Taken, reading-good, read-ways, read-pool}
+use Rattle.promises.specs.laws.ReadLaws.{Taken, filledIn, reading-good, read-ways, read-pool}
+use Rattle.promises.specs.StoredGrounds.{Has}
 use Rattle.table.specs.declared.Form.{Form}
 
 -- reading changes no length
@@ -54,19 +56,23 @@ set-up-good form ts n h = set-up-ways form ts n h (λ (g : Given). (g .answer �
 pub ran-stored : (form : Form) → {ts ws ss rs : List ℕ} → Passed form ts ws ss rs → Stored form ts (performed (shown form ts) (operations ss) .pool)
 ran-stored form {ts} {ws} {ss} p = stores form ts (performed (shown form ts) (operations ss) .pool) (passed-good form p .table) (performed-alike (operations ss) (shown form ts)) (performed-sound (operations ss) (shown form ts) (passed-good form p .sound))
 
-pub read-stored : (form : Form) → {ts ws xs : List ℕ} {h : ℕ} → Taken form ts ws h xs → Stored form ts (read (shown form ts) h (listIn xs))
-read-stored form {ts} {ws} {xs} {h} t = stores form ts (read (shown form ts) h (listIn xs)) (reading-good form ts ws h xs (t .entered) .table) (read-alike (shown form ts) h (listIn xs)) (read-pool form ts ws h xs t .sound)
+pub read-stored : (form : Form) → {k : Kind} {ts ws xs : List ℕ} {h : ℕ} → Taken form k ts ws h xs → Stored form ts (read (shown form ts) h (listIn k xs))
+read-stored form {k} {ts} {ws} {xs} {h} t = stores form ts (read (shown form ts) h (listIn k xs)) (reading-good form k ts ws h xs (t .entered) .table) (read-alike (shown form ts) h (listIn k xs)) (read-pool form k ts ws h xs t .sound)
+
+-- the holder has the list of the bytes then
+pub read-has : (form : Form) → {k : Kind} {ts ws xs : List ℕ} {h : ℕ} → Taken form k ts ws h xs → Has form (filledIn form k ts ws h xs .table) h (listIn k xs)
+read-has form {k} {ts} {ws} {xs} {h} t = subst (λ (q : Pool). ListAt (q .cells) (holder q h) (listIn k xs)) (sym (read-stored form t .shows)) (read-pool form k ts ws h xs t .gets)
 
 pub ran-good : (form : Form) → (ts ws ss rs : List ℕ) → Good form ts → Good form (ranIn form ts ws ss rs .table)
 ran-good form ts ws ss rs g = run-ways form ts ws ss rs (λ (r : Ran). Good form (r .table)) (λ n us m. g)
     (λ p. stored-good form ts (performed (shown form ts) (operations ss) .pool) (ran-stored form p) (performed-sound (operations ss) (shown form ts) (g .sound)))
 
-pub read-good : (form : Form) → (ts ws : List ℕ) (h : ℕ) (xs : List ℕ) → Good form ts → Good form (readingIn form ts ws h xs .table)
-read-good form ts ws h xs g = read-ways form ts ws h xs (λ (r : Reading). Good form (r .table)) (λ n us m. g)
-    (λ t. stored-good form ts (read (shown form ts) h (listIn xs)) (read-stored form t) (read-pool form ts ws h xs t .sound))
+pub read-good : (form : Form) (k : Kind) (ts ws : List ℕ) (h : ℕ) (xs : List ℕ) → Good form ts → Good form (readingIn form k ts ws h xs .table)
+read-good form k ts ws h xs g = read-ways form k ts ws h xs (λ (r : Reading). Good form (r .table)) (λ n us m. g)
+    (λ t. stored-good form ts (read (shown form ts) h (listIn k xs)) (read-stored form t) (read-pool form k ts ws h xs t .sound))
 
 pub reached-good : (form : Form) → {ts : List ℕ} → Reached (ours form) ts → Good form ts
 reached-good form (made ts n h e) = set-up-good form ts n h (λ m. absurd (m e))
 reached-good form (setAgain {ts = ts} n h r) = set-up-good form ts n h (λ m. reached-good form r)
 reached-good form (ranOn {ts = ts} ws ss rs r) = ran-good form ts ws ss rs (reached-good form r)
-reached-good form (readInto {ts = ts} ws h xs r) = read-good form ts ws h xs (reached-good form r)
+reached-good form (readInto {ts = ts} k ws h xs r) = read-good form k ts ws h xs (reached-good form r)

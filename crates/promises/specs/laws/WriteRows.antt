@@ -4,14 +4,17 @@ use mathlib.Core.Path.{_≡_, refl, sym, ap, _∙_, subst}
 use mathlib.Core.Logic.{_⊎_, inl, inr}
 use mathlib.Core.Bool.{Bool, true, false, cond, false≢true}
 use mathlib.Core.List.{List, [], _∷_, _++_}
-use Prim.Native.Nat.{ℕ, _-_, _≤_, _<_, suc}
+use Prim.Native.Nat.{ℕ, _+_, _-_, _≤_, _<_, suc}
 use native.Mathlib.Omega.{arith}
 use lib.Dec.{eqb, leb}
 use lib.ListN.{length, getD, drop, length-append}
 use borrow.Author.Tests.{eqb-true, eqb-false, leb-true, le-leb, eq-eqb}
 use Rattle.answers.specs.Answers.{DONE, DEEP, OUTPUT}
+use Rattle.lists.specs.Lst.{Lst, order}
 use Rattle.text.specs.Limits.{levels}
+use Rattle.text.specs.ListText.{textOf}
 use Rattle.text.specs.Writing.{depthAfter, tooDeep, judged}
+use Rattle.text.specs.laws.WritingLaws.{writes}
 use Rattle.promises.specs.TextGrounds.{along, TooDeep}
 
 -- the same from a place with d levels open
@@ -66,3 +69,14 @@ judges (b ∷ t) u d = go (tooDeep d b) refl (eqb u 0) refl (judges t (u - 1) (d
 
 pub judged-answers : (u : ℕ) (t : List ℕ) → (TooDeep u t × (judged u 0 t ≡ DEEP)) ⊎ ((TooDeep u t → ⊥) × (((u < length t) × (judged u 0 t ≡ OUTPUT)) ⊎ ((u < length t → ⊥) × (judged u 0 t ≡ DONE))))
 judged-answers u t = judges t u 0
+
+-- a list of at most 200 levels opens no more
+pub text-shallow : (u : ℕ) (l : Lst) → order l ≤ levels → TooDeep u (textOf l) → ⊥
+text-shallow u l h (us, later, e, d, k) = go (judged-answers w (textOf l)) (writes w l h (omega arith))
+  where
+    w : ℕ
+    w = u + length (textOf l)
+
+    go : (TooDeep w (textOf l) × (judged w 0 (textOf l) ≡ DEEP)) ⊎ ((TooDeep w (textOf l) → ⊥) × (((w < length (textOf l)) × (judged w 0 (textOf l) ≡ OUTPUT)) ⊎ ((w < length (textOf l) → ⊥) × (judged w 0 (textOf l) ≡ DONE)))) → judged w 0 (textOf l) ≡ DONE → ⊥
+    go (inl (_, z)) q = omega arith
+    go (inr (n, _)) q = n (us, later, e, d, omega arith)

@@ -5,27 +5,30 @@ use mathlib.Core.List.{List, [], _∷_, _++_}
 use Prim.Native.Nat.{ℕ}
 use native.Mathlib.Omega.{arith}
 use lib.ListN.{replicate}
-use Rattle.answers.specs.Answers.{DONE}
+use Rattle.answers.specs.Answers.{DONE, NO-ROOM}
 use Rattle.lists.specs.Lst.{extent}
-use Rattle.pool.specs.Operations.{load, read, listFrom}
 use Rattle.pool.specs.Tally.{Number, start, miss}
-use Rattle.text.specs.Marks.{listIn}
 use Rattle.calls.specs.Chars.{blanks}
 use Rattle.calls.specs.Entry.{shown}
-use Rattle.calls.specs.Read.{readingIn}
-use Rattle.calls.specs.Write.{writingIn}
+use Rattle.groups.specs.Stored.{verdict, listIn}
 use Rattle.promises.specs.Engine.{made}
-use Rattle.promises.specs.TextGrounds.{readRows, writeRows, checkRows}
+use Rattle.promises.specs.TextGrounds.{checkRows}
+use Rattle.promises.specs.StoredGrounds.{sizeRows, faultRows}
 use Rattle.promises.specs.Demand1.{ReadRefusals, WriteRefusals, CheckRefusals}
 use Rattle.promises.specs.Demand3.{Used, NoRoomToRead}
-use Rattle.promises.specs.laws.Tells.{first-none}
-use Rattle.promises.specs.laws.TextOnce.{spells-ours}
+use Rattle.promises.specs.laws.Tells.{none-both}
+use Rattle.promises.specs.laws.StoredRows.{spells-ours}
 use Rattle.promises.specs.kept.Demand1Kept.{demand1}
 use Rattle.promises.specs.OneOutcome.{one-answer}
 use Rattle.promises.specs.refuted.WrongEngines.{alwaysAnswers}
-use Rattle.promises.specs.refuted.WrongTexts.{countsNoDigits, runUncounted, readsOver, keepsOneBack, writesWhatFits}
-use Rattle.promises.specs.refuted.Computed.{checked, computed}
-use Rattle.promises.specs.refuted.Refuted.{zeros, one, null, full, none-used}
+use Rattle.promises.specs.refuted.WrongStored.{readsOver, keepsOneBack, writesWhatFits}
+use Rattle.promises.specs.refuted.WrongTexts.{countsNoDigits, runUncounted}
+use Rattle.promises.specs.refuted.ByRows.{checks-otherwise, reads-otherwise, writes-otherwise, no-fault}
+use Rattle.promises.specs.refuted.Computed.{checked, computed, storing}
+use Rattle.promises.specs.refuted.SmallTables.{zeros, one, null, full}
+use Rattle.promises.specs.refuted.Refuted.{none-used}
+use Rattle.groups.specs.declared.Stored.{Stored}
+use Rattle.groups.specs.declared.Stored.the-variants.{Text, Groups}
 use Rattle.table.specs.declared.Form.the-variants.{Four}
 
 -- one answer for every call: a text of 0 bytes has another than the null list
@@ -39,34 +42,40 @@ always-answers n d =
 -- twelve zeros are 16
 pub counts-no-digits-done : CheckRefusals countsNoDigits → ⊥
 unfolding checked runUncounted
-counts-no-digits-done d =
-    let xs : List ℕ = 40 ∷ (replicate 12 48 ++ (41 ∷ blanks 58)) in
-    let e : _≡_ {A = ℕ} 0 16 = one-answer (checkRows xs) _ _ (d xs) (demand1 Four .check-refusals xs) in
-    omega arith
+counts-no-digits-done = checks-otherwise countsNoDigits (40 ∷ (replicate 12 48 ++ (41 ∷ blanks 58)))
+    (λ (e : _≡_ {A = ℕ} 0 16). omega arith)
 
-pub reads-over : ReadRefusals Four readsOver → ⊥
-unfolding computed readingIn
-reads-over d =
-    let t = full readsOver in
-    let e : _≡_ {A = ℕ} 0 10 = one-answer (readRows Four t (zeros 2) 0 null) _ _ (d t (zeros 2) 0 null)
-    (demand1 Four .read-refusals t (zeros 2) 0 null) in
-    omega arith
+-- whichever stored form it is
 
--- no output takes no text
-pub writes-what-fits : WriteRefusals Four writesWhatFits → ⊥
-unfolding computed writingIn listFrom
-writes-what-fits d =
-    let e : _≡_ {A = ℕ} 0 18 = one-answer (writeRows Four one (zeros 2) 0 []) _ _ (d one (zeros 2) 0 []) (demand1 Four .write-refusals one (zeros 2) 0 []) in
-    omega arith
+pub reads-over : (k : Stored) → ReadRefusals Four (readsOver k) → ⊥
+unfolding storing
+reads-over Text = reads-otherwise (readsOver Text) Text (full (readsOver Text)) (zeros 2) 0 null
+    (λ (e : _≡_ {A = ℕ} 0 10). omega arith)
+reads-over Groups = reads-otherwise (readsOver Groups) Groups (full (readsOver Groups)) (zeros 2) 0 (1 ∷ [])
+    (λ (e : _≡_ {A = ℕ} 0 10). omega arith)
+
+-- no output takes no list
+pub writes-what-fits : (k : Stored) → WriteRefusals Four (writesWhatFits k) → ⊥
+unfolding storing
+writes-what-fits Text = writes-otherwise (writesWhatFits Text) Text one (zeros 2) 0 []
+    (λ (e : _≡_ {A = ℕ} 0 18). omega arith)
+writes-what-fits Groups = writes-otherwise (writesWhatFits Groups) Groups one (zeros 2) 0 []
+    (λ (e : _≡_ {A = ℕ} 0 18). omega arith)
 
 -- one cell is free, and (1) needs one
-pub keeps-one-back : NoRoomToRead Four keepsOneBack → ⊥
-unfolding computed readingIn listIn extent load read
-keeps-one-back d =
-    let xs : List ℕ = 40 ∷ 49 ∷ 41 ∷ blanks 69 in
-    let (n, _) = first-none (checkRows xs) (λ m. m ≡ DONE) DONE
-    ((λ z. omega arith), ((λ z. omega arith), ((λ z. omega arith), ((λ z. omega arith), ((λ z. omega arith), tt))))) (demand1 Four .check-refusals xs) in
-    let k : Number (Used (shown Four one)) 1 0 = miss (none-used (shown Four one) 64 refl 1 (λ z. omega arith)) start in
-    let l = d one (zeros 2) 0 xs 0 72 (listIn xs) (inl (made (zeros 70) 1 64 refl)) (λ h. omega arith) (λ h. omega arith) (n .0, (n .1 .0, tt)) refl
-    (n .1 .1) k (spells-ours xs refl) .0 refl in
-    omega (arith, l)
+module _ (k : Stored) (xs : List ℕ) where
+  one-back : keepsOneBack k .read k one (zeros 2) 0 xs .answer ≡ NO-ROOM
+      → extent (listIn k xs) ≡ 1 → verdict k xs .no ≡ DONE → NoRoomToRead Four (keepsOneBack k) → ⊥
+  unfolding computed
+  one-back refused needs right d =
+      let (size, fault) = none-both (sizeRows k xs) (faultRows k xs) .1 (no-fault k xs right) in
+      let u : Number (Used (shown Four one)) 1 0 =
+      miss (none-used (shown Four one) 64 refl 1 (λ z. omega arith)) start in
+      let l = d k one (zeros 2) 0 xs 0 (verdict k xs .taken) (listIn k xs) (inl (made (zeros 70) 1 64 refl))
+      (λ h. omega arith) (λ h. omega arith) size refl fault u (spells-ours k xs right) .0 refused in
+      omega (arith, l, needs)
+
+pub keeps-one-back : (k : Stored) → NoRoomToRead Four (keepsOneBack k) → ⊥
+unfolding storing
+keeps-one-back Text = one-back Text (40 ∷ 49 ∷ 41 ∷ blanks 69) refl refl refl
+keeps-one-back Groups = one-back Groups (3 ∷ 2 ∷ []) refl refl refl

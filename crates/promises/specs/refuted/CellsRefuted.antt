@@ -1,12 +1,12 @@
--- Each engine of WrongCells breaks the statement that its theorem names, on a table of two cells; and a ring is no list.
-use mathlib.Core.Path.{_≡_, refl, ap, subst}
+-- Each engine of WrongCells breaks the statement that its theorem names, on a table of two cells; and a ring is no
+-- list.
+use mathlib.Core.Path.{_≡_, refl, subst}
 use mathlib.Core.Logic.{_≢_, inl, inr}
 use mathlib.Core.List.{List, [], _∷_, _++_}
 use Prim.Native.Nat.{ℕ}
 use native.Mathlib.Omega.{arith}
-use lib.ListN.{getD}
 use Rattle.lists.specs.Lst.{Lst, nil, atom, list}
-use Rattle.pool.specs.Pool.{Cell, nextOf, holder, ListAt, Chain}
+use Rattle.pool.specs.Pool.{Cell, nextOf, ListAt, Chain}
 use Rattle.pool.specs.Operations.{pfl, adv, copy, cinv}
 use Rattle.pool.specs.Script.{PFL, DECAP, ADV, BORROW, INV, CINV, CONC, LENGTH, Operation}
 use Rattle.calls.specs.Entry.{shown}
@@ -19,10 +19,10 @@ use Rattle.promises.specs.laws.Tells.{tells-among}
 use Rattle.promises.specs.laws.ErasingLaws.{one-end}
 use Rattle.promises.specs.kept.CellsDo.{adv-erases}
 use Rattle.promises.specs.same.OnePool.{lent-once}
-use Rattle.promises.specs.refuted.WrongEngines.{joinsItself}
+use Rattle.promises.specs.refuted.WrongRules.{joinsItself}
 use Rattle.promises.specs.refuted.WrongCells.{takesSecond, insertsBehind, spills, keepsB, freesToEnd, forgetsToErase, neverTurns, sharesShort, keepsApart, losesFree, losesTable}
 use Rattle.promises.specs.refuted.Computed.{computed}
-use Rattle.promises.specs.refuted.Refuted.{zeros, prefix, prefixing, two}
+use Rattle.promises.specs.refuted.SmallTables.{word, zeros, prefix, prefixing, two}
 use Rattle.table.specs.declared.Form.the-variants.{Four}
 
 -- two cells after the operations ss, and an operation on holders 0 and 1
@@ -96,7 +96,7 @@ keeps-apart d = let e : _≡_ {A = ℕ} 0 1 = d (after keepsApart (prefix 1 5)) 
 
 pub loses-free : AskingLeaves Four losesFree → ⊥
 unfolding computed
-loses-free d = let e : _≡_ {A = ℕ} 0 1 = ap (λ (us : List ℕ). getD us 1 0) (d two (zeros 4) (zeros 2) (on LENGTH) refl (inr (inl refl))) in omega arith
+loses-free d = let e : _≡_ {A = ℕ} 0 1 = word 1 (d two (zeros 4) (zeros 2) (on LENGTH) refl (inr (inl refl))) in omega arith
 
 pub loses-table : SizesStay Four losesTable → ⊥
 unfolding computed

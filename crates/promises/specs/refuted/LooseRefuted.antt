@@ -1,30 +1,26 @@
 -- Engines whose answers and lists are right and whose words are not: each breaks the statement that its theorem names.
-use mathlib.Core.Path.{_≡_, refl, ap}
+use mathlib.Core.Path.{_≡_, refl}
 use mathlib.Core.Logic.{inl}
 use mathlib.Core.List.{List, [], _∷_, _++_}
 use Prim.Native.Nat.{ℕ}
 use native.Mathlib.Omega.{arith}
-use lib.ListN.{getD, replicate}
-use Rattle.lists.specs.Lst.{extent}
-use Rattle.pool.specs.Pool.{Cell, Chain}
-use Rattle.pool.specs.Operations.{pfl, copy, cinv, load, read}
+use lib.ListN.{replicate}
+use Rattle.pool.specs.Pool.{Cell}
+use Rattle.pool.specs.Operations.{pfl, copy, cinv}
 use Rattle.pool.specs.Script.{PFL, BORROW, ERASE, Operation}
-use Rattle.text.specs.Marks.{listIn}
 use Rattle.calls.specs.Chars.{blanks}
-use Rattle.calls.specs.SetUp.{setUp}
 use Rattle.calls.specs.Entry.{shown}
-use Rattle.calls.specs.Read.{readingIn}
-use Rattle.calls.specs.Write.{writingIn}
-use Rattle.promises.specs.Demand1.{RefusedSetUp, RefusedRun, RefusedRead, RefusedWrite, RefusedCheck, RunWork, ReadWork, WriteWork}
+use Rattle.promises.specs.Demand1.{RefusedSetUp, RefusedRun, RefusedWrite, RefusedCheck, RunWork, ReadWork, WriteWork}
 use Rattle.promises.specs.Erasing.{Erased, list, waited, ended}
-use Rattle.promises.specs.Cells.{BorrowShares, EraseErases, Laid, ReadingUsesItsCells}
+use Rattle.promises.specs.Cells.{BorrowShares, EraseErases}
 use Rattle.promises.specs.Demand2.{SetUpGives, RestGives}
 use Rattle.promises.specs.laws.ErasingLaws.{one-end}
-use Rattle.promises.specs.laws.TextOnce.{spells-ours}
-use Rattle.promises.specs.refuted.WrongEngines.{setsUpDirty, clearsFirst, copying, waitsInLine}
-use Rattle.promises.specs.refuted.WrongTexts.{countsRefused, keepsCells, losesRest, restAtStart, loadLate, takesLate}
-use Rattle.promises.specs.refuted.Computed.{checked, computed}
-use Rattle.promises.specs.refuted.Refuted.{zeros, prefix, two}
+use Rattle.promises.specs.refuted.WrongRules.{copying, waitsInLine}
+use Rattle.promises.specs.refuted.WrongEngines.{setsUpDirty, clearsFirst}
+use Rattle.promises.specs.refuted.WrongTexts.{countsRefused, losesRest, restAtStart}
+use Rattle.promises.specs.refuted.Computed.{checked, computed, storing}
+use Rattle.promises.specs.refuted.SmallTables.{word, zeros, prefix, two}
+use Rattle.groups.specs.declared.Stored.the-variants.{Text}
 use Rattle.table.specs.declared.Form.the-variants.{Four}
 
 -- the type of cell 1 is one of the words that are 0
@@ -37,7 +33,7 @@ abbrev nine : List ℕ
 nine = 9 ∷ []
 
 cleared-nine : 0 ∷ [] ≡ nine → ⊥
-cleared-nine e = omega (arith, ap (λ (us : List ℕ). getD us 0 0) e)
+cleared-nine e = omega (arith, word 0 e)
 
 pub clears-set-up : RefusedSetUp clearsFirst → ⊥
 unfolding computed
@@ -48,28 +44,20 @@ unfolding computed
 clears-results d = cleared-nine (d [] [] [] nine (λ n. n .0 (inl (omega arith))) .1)
 
 pub clears-output : RefusedWrite clearsFirst → ⊥
-unfolding computed writingIn
-clears-output d = cleared-nine (d [] [] 0 nine (λ z. omega arith) .0)
+unfolding storing
+clears-output d = cleared-nine (d Text [] [] 0 nine (λ z. omega arith) .0)
 
 pub clears-run-work : RunWork Four clearsFirst → ⊥
 unfolding computed
 clears-run-work d = cleared-nine (d [] nine [] [] .0 (λ n. n .0 (inl (omega arith))))
 
 pub clears-read-work : ReadWork Four clearsFirst → ⊥
-unfolding computed readingIn
-clears-read-work d = cleared-nine (d [] nine 0 [] .0 (λ n. n .0 (inl (omega arith))))
+unfolding storing
+clears-read-work d = cleared-nine (d Text [] nine 0 [] .0 (λ n. n .0 (inl (omega arith))))
 
 pub clears-write-work : WriteWork Four clearsFirst → ⊥
-unfolding computed writingIn
-clears-write-work d = cleared-nine (d [] nine 0 [] .0 (λ n. n .0 (inl (omega arith))))
-
--- "(" and blanks are no list, and the one cell stays free
-pub keeps-cells : RefusedRead keepsCells → ⊥
-unfolding computed readingIn
-keeps-cells d =
-    let one = setUp (zeros 70) 1 .table in
-    let e = d one (zeros 2) 0 (40 ∷ blanks 71) (λ z. omega arith) .0 in
-    omega (arith, ap (λ (us : List ℕ). shown Four us .free) e)
+unfolding storing
+clears-write-work d = cleared-nine (d Text [] nine 0 [] .0 (λ n. n .0 (inl (omega arith))))
 
 -- a text of 0 bytes is refused, with 0 bytes taken
 pub counts-refused : RefusedCheck countsRefused → ⊥
@@ -108,14 +96,4 @@ waits-in-line d =
     let q = shown Four (waitsInLine .run t (zeros 4) (ERASE ∷ 0 ∷ 0 ∷ 0 ∷ []) (zeros 2) .table) in
     let right : (ds : List Cell) × Erased 2 ds (p .free) (p .cells) 2 [] 2 = (_, list refl refl (list refl refl (waited (waited ended)))) in
     let e : _≡_ {A = ℕ} 1 2 = one-end {g = q .free} (d t (zeros 4) (zeros 2) o refl refl .1 .1) (right .1) .free in
-    omega arith
-
--- ((1),2) in three cells: the element of the first is the second, where the late reader has the third
-pub takes-late : ReadingUsesItsCells Four takesLate → ⊥
-unfolding computed readingIn listIn extent load read loadLate Laid Chain
-takes-late d =
-    let three = setUp (zeros 78) 3 .table in
-    let xs : List ℕ = 40 ∷ 40 ∷ 49 ∷ 41 ∷ 44 ∷ 50 ∷ 41 ∷ blanks 65 in
-    let r = d three (zeros 6) 0 xs refl (listIn xs) (1 ∷ 2 ∷ 3 ∷ []) (spells-ours xs refl) (refl, (λ z. omega arith), (refl, (λ z. omega arith), (refl, (λ z. omega arith), refl))) in
-    let e : _≡_ {A = ℕ} 3 2 = ap (λ (c : Cell). c .elem) (r .laid .0) in
     omega arith

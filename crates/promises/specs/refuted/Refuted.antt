@@ -1,52 +1,31 @@
--- The engines that document 01 wants to see refused: each breaks the statement that its theorem names, on a table of one or two cells.
-use mathlib.Core.Path.{_≡_, refl, sym, ap, _∙_, subst}
+-- The engines that document 01 wants to see refused: each breaks the statement that its theorem names, on a table of
+-- one or two cells.
+use mathlib.Core.Path.{_≡_, refl, sym, _∙_, subst}
 use mathlib.Core.Logic.{_≢_, _⊎_, inl, inr}
 use mathlib.Core.Bool.{false≢true}
-use mathlib.Core.List.{List, [], _∷_, _++_}
+use mathlib.Core.List.{List, _++_}
 use Prim.Native.Nat.{ℕ, zero, suc, _≤_, _<_}
 use native.Mathlib.Omega.{arith}
-use lib.ListN.{length, getD, replicate}
+use lib.ListN.{length}
 use Rattle.answers.specs.Answers.{DONE, TABLE-SIZE}
 use Rattle.lists.specs.Lst.{Lst, nil, atom}
-use Rattle.pool.specs.laws.Fresh.{zero-at}
 use Rattle.pool.specs.Tally.{Number, start, hit, miss}
 use Rattle.pool.specs.Pool.{Cell, Pool, countOf, holder, ListAt, Walk}
 use Rattle.pool.specs.Script.{PFA, LENGTH, Operation}
-use Rattle.calls.specs.Chars.{blanks}
-use Rattle.calls.specs.SetUp.{setUp}
 use Rattle.calls.specs.Entry.{shown}
-use Rattle.promises.specs.Engine.{Engine, Reached, made, ranOn}
+use Rattle.promises.specs.Engine.{Reached, made, ranOn}
 use Rattle.promises.specs.Rows.{None}
 use Rattle.promises.specs.Grounds.{BadSize, BadCode, BadHolder, Shared, beforeRoom, withB, takingFirst, fillingB}
 use Rattle.promises.specs.Machine.{says}
 use Rattle.promises.specs.Demand1.{SetUpRefusals}
-use Rattle.promises.specs.Demand2.{Holds, OperationsGive, ScriptsGive}
+use Rattle.promises.specs.Demand2.{OperationsGive, ScriptsGive}
 use Rattle.promises.specs.Demand3.{Used, erasing, EraseCounts, NoRoomToPerform}
 use Rattle.promises.specs.laws.Tells.{tells-among}
-use Rattle.promises.specs.refuted.WrongEngines.{alwaysRefuses, constantAnswer, doesNothing, firstOnly, inventsNumber, neverLends}
+use Rattle.promises.specs.refuted.WrongEngines.{alwaysRefuses, doesNothing, firstOnly, inventsNumber, neverLends}
+use Rattle.promises.specs.refuted.WrongRules.{constantAnswer}
 use Rattle.promises.specs.refuted.Computed.{computed}
+use Rattle.promises.specs.refuted.SmallTables.{all-null, full, one, one-null, prefix, prefixing, two, two-null, word, zeros}
 use Rattle.table.specs.declared.Form.the-variants.{Four}
-
-abbrev pub zeros : ℕ → List ℕ
-zeros n = replicate n 0
-
--- PFA of v to holder a
-abbrev pub prefix : ℕ → ℕ → List ℕ
-prefix a v = PFA ∷ a ∷ 0 ∷ v ∷ []
-
-abbrev pub prefixing : ℕ → ℕ → Operation
-prefixing a v = record { code = PFA; a = a; b = 0; v = v }
-
--- new tables of one and of two cells
-abbrev pub one : List ℕ
-one = setUp (zeros 70) 1 .table
-
-abbrev pub two : List ℕ
-two = setUp (zeros 74) 2 .table
-
--- the null list in a record of its own
-abbrev pub null : List ℕ
-null = 40 ∷ 41 ∷ blanks 70
 
 -- refusing everything: a set-up of the right size is no row's
 pub always-refuses : SetUpRefusals Four alwaysRefuses → ⊥
@@ -67,26 +46,13 @@ pub no-atom : (cs : List Cell) (c v : ℕ) (l : Lst) → c ≡ 0 → ListAt cs c
 unfolding ListAt
 no-atom cs c v l e w = let z = subst (λ (x : ℕ). ListAt cs x (atom v l)) e w in omega (arith, z .0)
 
--- holders that are all null have the null list
-pub all-null : (p : Pool) (k : ℕ) → p .holders ≡ zeros k → (i : ℕ) → ListAt (p .cells) (holder p i) nil
-unfolding ListAt
-all-null p k e i = ap (λ (hs : List ℕ). getD hs i 0) e ∙ zero-at k i 0 refl
-
-one-null : Holds Four one (λ i. nil)
-unfolding computed
-one-null = all-null (shown Four one) 64 refl
-
-pub two-null : Holds Four two (λ i. nil)
-unfolding computed
-two-null = all-null (shown Four two) 64 refl
-
 -- one answer for all: LENGTH says a number
 pub constant-answer : OperationsGive Four constantAnswer → ⊥
 unfolding computed says
 constant-answer d =
     let o : Operation = record { code = LENGTH; a = 0; b = 0; v = 0 } in
     let (n, e) = d one (zeros 2) (zeros 2) o (λ i. nil) one-null refl .1 in
-    let k : _≡_ {A = ℕ} 3 2 = ap (λ (qs : List ℕ). getD qs 0 0) e in
+    let k : _≡_ {A = ℕ} 3 2 = word 0 e in
     omega arith
 
 -- changing nothing: a PFA that is done gives its holder the atom
@@ -105,10 +71,6 @@ number-le : {P : ℕ → Type 0} {k n : ℕ} → Number P k n → n ≤ k
 number-le start = omega arith
 number-le (hit p r) = omega (arith, number-le r)
 number-le (miss p r) = omega (arith, number-le r)
-
--- a table that the engine itself has made: one cell, in use
-abbrev pub full : Engine → List ℕ
-full E = E .run one (zeros 2) (prefix 0 5) (zeros 2) .table
 
 -- a made-up number: it counts cells, and there is one
 pub invents-number : EraseCounts Four inventsNumber → ⊥

@@ -1,4 +1,5 @@
--- Script runs that do not stop as they should, or that lose cells or give back cells that are in use: each breaks the statement that its theorem names.
+-- Script runs that do not stop as they should, or that lose cells or give back cells that are in use: each breaks the
+-- statement that its theorem names.
 use mathlib.Core.Path.{_≡_, refl, sym, ap, _∙_, subst}
 use mathlib.Core.Logic.{_≢_, ⊎-elim}
 use mathlib.Core.List.{List, [], _∷_, _++_}
@@ -16,9 +17,11 @@ use Rattle.promises.specs.laws.Tells.{passed-over}
 use Rattle.promises.specs.laws.RunLaws.{passed-none}
 use Rattle.promises.specs.Demand1.{Stops, end, refused, done, ScriptsStop}
 use Rattle.promises.specs.Demand3.{Free, FreeOrReached, NeverBoth}
-use Rattle.promises.specs.refuted.WrongEngines.{goesOnRefused, undoesAll, neverLends, decapsShared}
+use Rattle.promises.specs.refuted.WrongRules.{goesOnRefused, decapsShared}
+use Rattle.promises.specs.refuted.WrongEngines.{undoesAll, neverLends}
 use Rattle.promises.specs.refuted.Computed.{computed}
-use Rattle.promises.specs.refuted.Refuted.{zeros, prefix, prefixing, one, pfa-passes, none-used, lost, lost-reached}
+use Rattle.promises.specs.refuted.SmallTables.{zeros, prefix, prefixing, one}
+use Rattle.promises.specs.refuted.Refuted.{pfa-passes, none-used, lost, lost-reached}
 use Rattle.promises.specs.refuted.SlipsRefuted.{none-free}
 use Rattle.table.specs.declared.Form.the-variants.{Four}
 

@@ -18,9 +18,9 @@ use Rattle.promises.specs.Machine.{Lists}
 use Rattle.promises.specs.Demand1.{RunRefusals}
 use Rattle.promises.specs.Demand2.{Holds, OthersStay}
 use Rattle.promises.specs.Demand3.{Free, CountsAreArrows, EraseFrees, NoListContainsItself}
-use Rattle.promises.specs.refuted.WrongEngines.{firstCountOnly, lowersBehind, decapLowers, decapRaises, joinsItself, countsOnly}
+use Rattle.promises.specs.refuted.WrongRules.{firstCountOnly, lowersBehind, decapLowers, decapRaises, joinsItself, countsOnly}
 use Rattle.promises.specs.refuted.Computed.{computed}
-use Rattle.promises.specs.refuted.Refuted.{zeros, prefix, two}
+use Rattle.promises.specs.refuted.SmallTables.{zeros, prefix, two}
 use Rattle.pool.specs.Setters.{cell}
 use Rattle.table.specs.View.{shape, words}
 use Rattle.table.specs.declared.Form.the-variants.{Four}

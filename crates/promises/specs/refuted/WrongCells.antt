@@ -1,4 +1,5 @@
--- Engines that take, turn or free other cells than document 01 names, each in one operation; the lists of most are right.
+-- Engines that take, turn or free other cells than document 01 names, each in one operation; the lists of most are
+-- right.
 use mathlib.Core.Bool.{Bool, true, cond, not, _&&_}
 use mathlib.Core.List.{List, []}
 use Prim.Native.Nat.{ℕ}
@@ -9,7 +10,8 @@ use Rattle.pool.specs.Operations.{share, item, decap, lastOf, lengthOf}
 use Rattle.pool.specs.Script.{PFA, PFL, DECAP, ADV, BORROW, INV, CINV, CONC, LENGTH, Operation, Effect, refusal, effect, tellsFirst, tellsNothing}
 use Rattle.calls.specs.Run.{ran}
 use Rattle.promises.specs.Engine.{Engine}
-use Rattle.promises.specs.refuted.WrongEngines.{leaving, starts, ruled}
+use Rattle.promises.specs.refuted.WrongRules.{ruled}
+use Rattle.promises.specs.refuted.WrongEngines.{leaving, starts}
 
 -- ours with another effect of one operation, where a test holds
 abbrev instead : ℕ → (Pool → Operation → Bool) → (Pool → Operation → Effect) → Engine

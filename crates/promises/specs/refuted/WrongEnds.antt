@@ -13,12 +13,13 @@ use Rattle.calls.specs.Entry.{shown}
 use Rattle.calls.specs.Read.{notRead, readIn}
 use Rattle.promises.specs.Engine.{Engine}
 use Rattle.promises.specs.refuted.WrongTexts.{taking, handing}
+use Rattle.groups.specs.declared.Stored.the-variants.{Text}
 use Rattle.table.specs.declared.Form.the-variants.{Four}
 
 -- ours with one more END, in the check and in reading, there behind 1, 2 and 7
 abbrev pub ending : (List ℕ → Bool) → Engine
 ending b = taking
-    (λ ts ws h xs. let r = readIn ts ws h xs in cond (b xs && not (among (r .answer) (TABLE-SIZE ∷ WORK-SPACE ∷ HOLDER ∷ [])))
+    (λ ts ws h xs. let r = readIn Text ts ws h xs in cond (b xs && not (among (r .answer) (TABLE-SIZE ∷ WORK-SPACE ∷ HOLDER ∷ [])))
     (notRead END ts ws) r)
     (λ xs. cond (b xs) (refusal END) (verdict xs))
 
@@ -45,7 +46,7 @@ blankAnySize = atEnd
 -- asks for a list in the holder before it asks for the end
 abbrev pub asksHolderFirst : Engine
 asksHolderFirst = taking
-    (λ ts ws h xs. let r = readIn ts ws h xs in cond (eqb (r .answer) END && not (eqb (holder (shown Four ts) h) 0)) (notRead OCCUPIED ts ws) r)
+    (λ ts ws h xs. let r = readIn Text ts ws h xs in cond (eqb (r .answer) END && not (eqb (holder (shown Four ts) h) 0)) (notRead OCCUPIED ts ws) r)
     verdict
 
 -- hands back what stands behind the list, though it be blanks

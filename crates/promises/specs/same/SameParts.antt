@@ -5,7 +5,9 @@ use Prim.Native.Nat.{ℕ}
 use Rattle.text.specs.Text.{Answer, verdict}
 use Rattle.calls.specs.Run.{Ran, ranIn}
 use Rattle.calls.specs.Read.{Read, readingIn}
+use Rattle.calls.specs.Move.{Move, movedFrom}
 use Rattle.calls.specs.Write.{Write, writingIn}
+use Rattle.groups.specs.declared.Stored.{Stored}
 use Rattle.table.specs.declared.Form.{Form}
 
 -- a script run
@@ -25,15 +27,15 @@ by-parts-run form ts ws ss rs a b = λ i. record {
   results = (a .results ∙ sym (b .results)) i;
 }
 
--- reading; the text is only read
+-- reading; the bytes are only read
 pub record ReadAs (d x : Read) : Type 0 where
   pub answer : x .answer ≡ d .answer
   pub count : x .count ≡ d .count
   pub table : x .table ≡ d .table
   pub work : x .work ≡ d .work
 
-pub by-parts-read : (form : Form) → (ts ws : List ℕ) (h : ℕ) (xs : List ℕ) {x y : Read} → ReadAs (readingIn form ts ws h xs) x → ReadAs (readingIn form ts ws h xs) y → x ≡ y
-by-parts-read form ts ws h xs a b = λ i. record {
+pub by-parts-read : (form : Form) (k : Stored) (ts ws : List ℕ) (h : ℕ) (xs : List ℕ) {x y : Read} → ReadAs (readingIn form k ts ws h xs) x → ReadAs (readingIn form k ts ws h xs) y → x ≡ y
+by-parts-read form k ts ws h xs a b = λ i. record {
   answer = (a .answer ∙ sym (b .answer)) i;
   count = (a .count ∙ sym (b .count)) i;
   table = (a .table ∙ sym (b .table)) i;
@@ -47,11 +49,26 @@ pub record WroteAs (d x : Write) : Type 0 where
   pub work : x .work ≡ d .work
   pub output : x .output ≡ d .output
 
-pub by-parts-write : (form : Form) → (ts ws : List ℕ) (h : ℕ) (out : List ℕ) {x y : Write} → WroteAs (writingIn form ts ws h out) x → WroteAs (writingIn form ts ws h out) y → x ≡ y
-by-parts-write form ts ws h out a b = λ i. record {
+pub by-parts-write : (form : Form) (k : Stored) (ts ws : List ℕ) (h : ℕ) (out : List ℕ) {x y : Write} → WroteAs (writingIn form k ts ws h out) x → WroteAs (writingIn form k ts ws h out) y → x ≡ y
+by-parts-write form k ts ws h out a b = λ i. record {
   answer = (a .answer ∙ sym (b .answer)) i;
   count = (a .count ∙ sym (b .count)) i;
   work = (a .work ∙ sym (b .work)) i;
+  output = (a .output ∙ sym (b .output)) i;
+}
+
+-- a move; the bytes are only read
+pub record MovedAs (d x : Move) : Type 0 where
+  pub answer : x .answer ≡ d .answer
+  pub taken : x .taken ≡ d .taken
+  pub written : x .written ≡ d .written
+  pub output : x .output ≡ d .output
+
+pub by-parts-move : (k : Stored) (xs out : List ℕ) {x y : Move} → MovedAs (movedFrom k xs out) x → MovedAs (movedFrom k xs out) y → x ≡ y
+by-parts-move k xs out a b = λ i. record {
+  answer = (a .answer ∙ sym (b .answer)) i;
+  taken = (a .taken ∙ sym (b .taken)) i;
+  written = (a .written ∙ sym (b .written)) i;
   output = (a .output ∙ sym (b .output)) i;
 }
 

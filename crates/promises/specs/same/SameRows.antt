@@ -1,20 +1,18 @@
 -- What rows fix: whether one of them holds, one answer, and one work space.
 use mathlib.Core.Path.{_≡_, sym, _∙_}
 use mathlib.Core.Logic.{_⊎_, inl, inr}
-use mathlib.Core.List.{List, [], _∷_}
-use Prim.Native.Nat.{ℕ, zero, suc}
-use lib.ListN.{take}
+use mathlib.Core.List.{List, [], _∷_, _++_}
+use Prim.Native.Nat.{ℕ}
 use Rattle.promises.specs.Rows.{Row, First, None}
 use Rattle.promises.specs.Demand1.{WorkSpace}
 
--- where an answer is that of its rows, one of the first k rows holds or none does
-pub decide : (k : ℕ) (rs : List Row) (rest : ℕ → Type 0) (n : ℕ) → First rs rest n → None (take k rs) ⊎ (None (take k rs) → ⊥)
-decide zero rs rest n f = inl tt
-decide (suc k) [] rest n f = inl tt
-decide (suc k) (r ∷ rs) rest n (inl h) = inr (λ m. m .0 (h .0))
-decide (suc k) (r ∷ rs) rest n (inr h) = go (decide k rs rest n (h .1))
+-- where an answer is that of its rows, one of the first rows holds or none does
+pub decide : (rs qs : List Row) (rest : ℕ → Type 0) (n : ℕ) → First (rs ++ qs) rest n → None rs ⊎ (None rs → ⊥)
+decide [] qs rest n f = inl tt
+decide (r ∷ rs) qs rest n (inl h) = inr (λ m. m .0 (h .0))
+decide (r ∷ rs) qs rest n (inr h) = go (decide rs qs rest n (h .1))
   where
-    go : None (take k rs) ⊎ (None (take k rs) → ⊥) → None (r ∷ take k rs) ⊎ (None (r ∷ take k rs) → ⊥)
+    go : None rs ⊎ (None rs → ⊥) → None (r ∷ rs) ⊎ (None (r ∷ rs) → ⊥)
     go (inl m) = inl (h .0, m)
     go (inr m) = inr (λ z. m (z .1))
 
