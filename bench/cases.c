@@ -182,6 +182,100 @@ static void deepest_list(given *g, uint32_t cells) {
     read_in(g);
 }
 
+/* ---- The same in groups */
+
+/*
+ * 65,519 characters, all but brackets in the innermost of 200 lists: dear for a move that looks ahead to count
+ * elements.
+ */
+static void deep_digits(given *g, uint32_t cells) {
+    size_t around = TAB_LEVELS - 1, end = TAB_TEXT - 1 - around;
+    fresh(g, cells);
+    memset(g->text, '(', TAB_LEVELS);
+    for (size_t at = TAB_LEVELS; at < end; at++) g->text[at] = (at - TAB_LEVELS) % 2 == 0 ? '7' : ',';
+    memset(g->text + end - 1, ')', TAB_LEVELS);
+    g->text[TAB_TEXT - 1] = ' ';
+    g->bytes = TAB_TEXT;
+}
+
+static void to_groups(given *g) {
+    static uint8_t groups[TAB_TEXT];
+    tab_moved m = tab_text_to_groups(g->text, g->bytes, groups, TAB_TEXT);
+    must(m.answer == TAB_DONE, "groups");
+    memcpy(g->text, groups, m.written);
+    g->bytes = m.written;
+}
+
+static void most_cells_groups(given *g, uint32_t cells) {
+    most_cells(g, cells);
+    to_groups(g);
+}
+
+static void long_groups(given *g, uint32_t cells) {
+    long_text(g, cells);
+    to_groups(g);
+}
+
+static void digit_groups(given *g, uint32_t cells) {
+    digits(g, cells);
+    to_groups(g);
+}
+
+/*
+ * Atoms of six digits up to the end of the text, 65,514 characters. Where fewer than eleven are left, digits may be put
+ * in another way, with more stack.
+ */
+static void several_digits(given *g, uint32_t cells) {
+    fresh(g, cells);
+    flat_text(g, 9359, 6);
+    to_groups(g);
+}
+
+/* 200 levels, an atom of five groups in the innermost list: what needs most stack to read. */
+static void deepest_groups(given *g, uint32_t cells) {
+    static const uint8_t largest[] = {254, 255, 255, 255, 31};
+    fresh(g, cells);
+    memset(g->text, 3, TAB_LEVELS);
+    memcpy(g->text + TAB_LEVELS, largest, sizeof largest);
+    g->bytes = TAB_LEVELS + sizeof largest;
+}
+
+/* `number` chains in a list, each of 199 levels with the null list as the innermost: 199 bytes and cells a chain. */
+static void chains(given *g, uint32_t cells, uint32_t number) {
+    size_t at = 0, levels = TAB_LEVELS - 1;
+    uint32_t first = 2 * number + 1;
+    fresh(g, cells);
+    for (; first >= 128; first /= 128) g->text[at++] = (uint8_t)(128 + first % 128);
+    g->text[at++] = (uint8_t)first;
+    for (; number > 0; number--) {
+        memset(g->text + at, 3, levels);
+        at += levels;
+        g->text[at - 1] = 1;
+    }
+    g->bytes = at;
+}
+
+static void few_chains(given *g, uint32_t cells) { chains(g, cells, cells / (TAB_LEVELS - 1)); }
+
+/* As many as 65,520 bytes take: 329, and two bytes before them. */
+static void most_chains(given *g, uint32_t cells) { chains(g, cells, (TAB_TEXT - 2) / (TAB_LEVELS - 1)); }
+
+/* 65,520 bytes, 200 levels: every list says that it has 2^32 - 1 elements, and the bytes run out. */
+static void claims(given *g, uint32_t cells) {
+    fresh(g, cells);
+    memset(g->text, 0, TAB_TEXT);
+    for (int i = 0; i < TAB_LEVELS; i++) memcpy(g->text + 5 * i, (uint8_t[]){255, 255, 255, 255, 31}, 5);
+    g->bytes = TAB_TEXT;
+}
+
+/* 65,517 atoms in 65,520 bytes: the most that groups can say, too much for text and for cells. */
+static void most_elements(given *g, uint32_t cells) {
+    fresh(g, cells);
+    memset(g->text, 2, TAB_TEXT);
+    memcpy(g->text, (uint8_t[]){219, 255, 7}, 3);
+    g->bytes = TAB_TEXT;
+}
+
 const bench_case cases[] = {
     {"set up 4,000 cells", fresh, 4000, SET_UP, 4, TAB_DONE},
     {"soundness check, 500 cells", no_script, 500, RUN, 4, TAB_DONE},
@@ -202,20 +296,45 @@ const bench_case cases[] = {
     {"write 65,520 bytes", long_list, 4000, WRITE, 1, TAB_DONE},
     {"write 48,024 bytes, 4,000 atoms", list_of_atoms, 4000, WRITE, 1, TAB_DONE},
     {"write 200 levels", deepest_list, 4000, WRITE, 1, TAB_DONE},
+    {"read groups, 4,000 atoms of 5 bytes", most_cells_groups, 4000, READ_GROUPS, 1, TAB_DONE},
+    {"read groups, 65,520 bytes, no room", most_elements, 4000, READ_GROUPS, 1, TAB_NO_ROOM},
+    {"read groups, nested, no room", long_groups, 4000, READ_GROUPS, 1, TAB_NO_ROOM},
+    {"read groups, 65,520 bytes, runs out", claims, 4000, READ_GROUPS, 1, TAB_GROUPS},
+    {"read groups, 200 levels", deepest_groups, 4000, READ_GROUPS, 1, TAB_DONE},
+    {"read groups, 20 chains of 199 levels", few_chains, 4000, READ_GROUPS, 1, TAB_DONE},
+    {"read groups, 329 chains, no room", most_chains, 4000, READ_GROUPS, 1, TAB_NO_ROOM},
+    {"write groups, 32,793 bytes", long_list, 4000, WRITE_GROUPS, 1, TAB_DONE},
+    {"write groups, 4,000 atoms of 5 bytes", list_of_atoms, 4000, WRITE_GROUPS, 1, TAB_DONE},
+    {"write groups, 200 levels", deepest_list, 4000, WRITE_GROUPS, 1, TAB_DONE},
+    {"text to groups, 65,520 bytes", long_text, 4000, TO_GROUPS, 1, TAB_DONE},
+    {"text to groups, 65,520 bytes, one digit", digits, 4000, TO_GROUPS, 1, TAB_DONE},
+    {"text to groups, 65,520 bytes, level 200", deep_digits, 4000, TO_GROUPS, 1, TAB_DONE},
+    {"text to groups, 200 levels", deepest_text, 4000, TO_GROUPS, 100, TAB_DONE},
+    {"groups to text, nested", long_groups, 4000, TO_TEXT, 1, TAB_DONE},
+    {"groups to text, 65,520 bytes, one digit", digit_groups, 4000, TO_TEXT, 1, TAB_DONE},
+    {"groups to text, 65,520 bytes, six digits", several_digits, 4000, TO_TEXT, 1, TAB_DONE},
+    {"groups to text, 65,520 bytes, runs out", claims, 4000, TO_TEXT, 1, TAB_GROUPS},
+    {"groups to text, 200 levels", deepest_groups, 4000, TO_TEXT, 100, TAB_DONE},
 };
 const int number_of_cases = sizeof cases / sizeof cases[0];
 
 void put_before(const given *g, left *l) { memcpy(l->table, g->table, 4 * words_of(g)); }
 
+static tab_moved gave(tab_outcome o) { return (tab_moved){o.answer, o.count, 0}; }
+
 void make_call(const calls *of, enum call call, const given *g, left *l) {
     size_t words = words_of(g), n = g->operations;
     switch (call) {
-    case SET_UP: l->outcome = (tab_outcome){of->set_up(l->table, words, g->table[0]), 0}; break;
-    case RUN: l->outcome = of->run(l->table, words, l->work, WORK, g->script, 4 * n, l->results, 2 * n); break;
-    case READ: l->outcome = of->read(l->table, words, l->work, WORK, 0, g->text, g->bytes); break;
-    case WRITE: l->outcome = of->write(l->table, words, l->work, WORK, 0, l->out, TAB_TEXT); break;
-    case CHECK: l->outcome = of->check(g->text, g->bytes); break;
-    case REST: l->outcome = (tab_outcome){TAB_DONE, (uint32_t)of->rest(g->text, g->bytes)}; break;
+    case SET_UP: l->outcome = (tab_moved){of->set_up(l->table, words, g->table[0]), 0, 0}; break;
+    case RUN: l->outcome = gave(of->run(l->table, words, l->work, WORK, g->script, 4 * n, l->results, 2 * n)); break;
+    case READ: l->outcome = gave(of->read(l->table, words, l->work, WORK, 0, g->text, g->bytes)); break;
+    case WRITE: l->outcome = gave(of->write(l->table, words, l->work, WORK, 0, l->out, TAB_TEXT)); break;
+    case CHECK: l->outcome = gave(of->check(g->text, g->bytes)); break;
+    case REST: l->outcome = (tab_moved){TAB_DONE, (uint32_t)of->rest(g->text, g->bytes), 0}; break;
+    case READ_GROUPS: l->outcome = gave(of->read_groups(l->table, words, l->work, WORK, 0, g->text, g->bytes)); break;
+    case WRITE_GROUPS: l->outcome = gave(of->write_groups(l->table, words, l->work, WORK, 0, l->out, TAB_TEXT)); break;
+    case TO_GROUPS: l->outcome = of->to_groups(g->text, g->bytes, l->out, TAB_TEXT); break;
+    case TO_TEXT: l->outcome = of->to_text(g->text, g->bytes, l->out, TAB_TEXT); break;
     case CALLS: break;
     }
 }

@@ -1,4 +1,4 @@
-/* The cases that are measured: for each a table, a script or a text, and the call that is made with them. */
+/* The cases that are measured: for each a table, a script, a text or groups, and the call that is made with them. */
 #ifndef CASES_H
 #define CASES_H
 
@@ -14,14 +14,18 @@ typedef struct {
     tab_outcome (*write)(const uint32_t *, size_t, uint32_t *, size_t, uint32_t, uint8_t *, size_t);
     tab_outcome (*check)(const uint8_t *, size_t);
     size_t (*rest)(const uint8_t *, size_t);
+    tab_outcome (*read_groups)(uint32_t *, size_t, uint32_t *, size_t, uint32_t, const uint8_t *, size_t);
+    tab_outcome (*write_groups)(const uint32_t *, size_t, uint32_t *, size_t, uint32_t, uint8_t *, size_t);
+    tab_moved (*to_groups)(const uint8_t *, size_t, uint8_t *, size_t);
+    tab_moved (*to_text)(const uint8_t *, size_t, uint8_t *, size_t);
 } calls;
 
-enum call { SET_UP, RUN, READ, WRITE, CHECK, REST, CALLS };
+enum call { SET_UP, RUN, READ, WRITE, CHECK, REST, READ_GROUPS, WRITE_GROUPS, TO_GROUPS, TO_TEXT, CALLS };
 
 /* What a call is lent. The table is as it is before the call. */
 typedef struct {
     uint32_t table[TABLE], script[SCRIPT];
-    uint8_t text[TAB_TEXT];
+    uint8_t text[TAB_TEXT]; /* or groups */
     size_t operations, bytes;
 } given;
 
@@ -29,7 +33,7 @@ typedef struct {
 typedef struct {
     uint32_t table[TABLE], work[WORK], results[RESULTS];
     uint8_t out[TAB_TEXT];
-    tab_outcome outcome;
+    tab_moved outcome;
 } left;
 
 typedef struct {

@@ -12,8 +12,10 @@
 enum { INPUTS = 8, ROUNDS = 10 };
 static const double LEAST = 0.4; /* seconds for a case */
 
-static const calls both[2] = {{tab_set_up, tab_run, tab_read, tab_write, tab_check, tab_rest},
-                             {ref_set_up, ref_run, ref_read, ref_write, ref_check, ref_rest}};
+static const calls both[2] = {{tab_set_up, tab_run, tab_read, tab_write, tab_check, tab_rest, tab_read_groups,
+                               tab_write_groups, tab_text_to_groups, tab_groups_to_text},
+                              {ref_set_up, ref_run, ref_read, ref_write, ref_check, ref_rest, ref_read_groups,
+                               ref_write_groups, ref_text_to_groups, ref_groups_to_text}};
 static given input[INPUTS];
 static left after[2];
 

@@ -15,8 +15,9 @@
  * Memory is lent as a pointer and a length. Lengths are counted in elements of the pointer's type: 32-bit words for
  * uint32_t, bytes for uint8_t. A length of 0 may go with a null pointer. Every other pointer must be valid for the
  * whole length, words must be aligned as uint32_t asks, and two runs that are lent to one call must not overlap.
- * That is all that a caller has to see to. Within these terms no content and no length, not even of a damaged table,
- * makes a call fault, run on without end, or touch memory that was not lent.
+ * The stack must have as many bytes left as stand beside the call; tab_read_groups asks for most. That is all that a
+ * caller has to see to. Within these terms no content and no length, not even of a damaged table, makes a call fault,
+ * run on without end, or touch memory that was not lent.
  *
  * Every call is fixed by what is lent to it: the same input gives the same answer and the same words.
  *
@@ -55,18 +56,19 @@
  *
  * A caller may look at all of this. A caller who changes it must leave the table sound: going by S from word 1 one
  * meets each free cell once, meets no other, and comes to 0; T is 0 or 1 in live cells; a holder, and an S or a list
- * element of a live cell, that is not 0 names a live cell; every R is right; and no way along S and list elements leads
- * from a live cell back to it. tab_run, tab_read and tab_write look for this and otherwise answer TAB_UNSOUND and leave
- * the table alone. Some answers come before: TAB_TABLE_SIZE and TAB_WORK_SPACE in all three, then TAB_SCRIPT and
- * TAB_RESULTS in tab_run, TAB_HOLDER, TAB_TEXT_SIZE and TAB_END in tab_read, TAB_HOLDER in tab_write.
+ * element of a live cell, that is not 0 names a live cell; every R is right; and no way along S and list elements
+ * leads from a live cell back to it. tab_run and the calls that read and write look for this and otherwise answer
+ * TAB_UNSOUND and leave the table alone. Some answers come before: TAB_TABLE_SIZE and TAB_WORK_SPACE in all of them,
+ * then TAB_SCRIPT and TAB_RESULTS in tab_run, TAB_HOLDER, TAB_TEXT_SIZE and TAB_END where a list is read, TAB_HOLDER
+ * where one is written.
  *
  *
  * THE WORK SPACE
  *
  * A call on a table of N cells is lent TAB_WORK_WORDS(N) = 2N words or more to work in. Their content does not matter.
- * After the answers TAB_TABLE_SIZE to TAB_RESULTS, TAB_TEXT_SIZE and TAB_END, and after TAB_HOLDER from tab_read or
- * tab_write, the work space is untouched. Any other answer, TAB_DONE included, leaves the first 2N words cleared to 0
- * and what is lent behind them as it was.
+ * After the answers TAB_TABLE_SIZE to TAB_RESULTS, TAB_TEXT_SIZE and TAB_END, and after TAB_HOLDER from any call but
+ * tab_run, the work space is untouched. Any other answer, TAB_DONE included, leaves the first 2N words cleared to 0 and
+ * what is lent behind them as it was.
  *
  *
  * TEXT
@@ -86,14 +88,33 @@
  * read into a fresh pool, takes 23. To keep the sharing, keep the table's words.
  *
  *
+ * GROUPS
+ *
+ * The second form in which a list is stored takes fewer bytes: numbers below 2^33, one after the other. An even number
+ * stands for an atom and is twice its value. An odd number begins a list: it is one more than twice the list's length,
+ * and the elements, so many of them, come behind it. A number is put down from its low end, seven bits to a byte; each
+ * such byte is a group, and 0x80 in it says that the number has a further one. So a last byte of 0 is right for the
+ * number 0 alone; behind other groups it would be one more than needed.
+ *
+ *   ()               1
+ *   (200)            3, 128, 2              octal 200 is 128 and its number 256, which is 0 + 2 * 128
+ *   ((3),1,(1,2))    7, 3, 6, 2, 5, 2, 4
+ *
+ * Atoms up to 63 take one byte, up to 8,191 two, up to 1,048,575 three, up to 2^27 - 1 four, all others five. A list's
+ * own number takes as much as an atom whose value is the list's length, and its elements come on top. There is no fill
+ * and no sign of an end: a list says itself where it ends, and the next may start at the byte behind it. Groups have at
+ * most TAB_TEXT bytes and lists at most TAB_LEVELS levels, as text has, and they keep no sharing either. Both forms of
+ * a list make the same cells in the same order.
+ *
+ *
  * COST
  *
- * tab_run, tab_read and tab_write look over the whole table once before they do anything: 8 to 18 microseconds at 4,000
- * cells, 0.2 at 64. So give tab_run many operations at once; each then costs some 20 nanoseconds, but for those that
- * walk: INV, CINV, CONC and LENGTH along the main level, ERASE through what it frees. The worst script that was
- * measured, 4,096 times INV of 4,000 cells, takes 92 milliseconds. Beside each call stand the times of its longest
- * measured cases and the most stack that any measured case used. The times are of one core of two servers, an Arm and an
- * x86-64 (docs/BENCH.md): measure on your own processor.
+ * tab_run and the calls that read and write look over the whole table once before they do anything: 8 to 18
+ * microseconds at 4,000 cells, 0.2 at 64. So give tab_run many operations at once; each then costs some 20
+ * nanoseconds, but for those that walk: INV, CINV, CONC and LENGTH along the main level, ERASE through what it frees.
+ * The worst script that was measured, 4,096 times INV of 4,000 cells, takes 92 milliseconds. Beside each call stand
+ * the times of its longest measured cases and the most stack that any measured case used. The times are of one core of
+ * two servers, an Arm and an x86-64 (docs/BENCH.md): measure on your own processor.
  */
 #ifndef TABESHILO_H
 #define TABESHILO_H
@@ -106,7 +127,7 @@ extern "C" {
 #endif
 
 /* The version of this header, major * 10000 + minor * 100 + patch; tab_version() tells that of the library. */
-#define TAB_VERSION 10100
+#define TAB_VERSION 10200
 
 /* What the library assumes of the machine that it is for. Where one of these fails, nothing here compiles. */
 #if defined(__BYTE_ORDER__) && defined(__ORDER_LITTLE_ENDIAN__) && __BYTE_ORDER__ != __ORDER_LITTLE_ENDIAN__
@@ -130,8 +151,8 @@ enum {
     TAB_HOLDERS = 64,      /* holders of a table; they have the numbers 0 to 63 */
     TAB_OPERATIONS = 4096, /* most operations of a script */
     TAB_RECORD = 72,       /* bytes of a text record */
-    TAB_TEXT = 65520,      /* most bytes of a text: 910 records */
-    TAB_LEVELS = 200       /* most levels of a list in a text */
+    TAB_TEXT = 65520,      /* most bytes of a text, 910 records, and of groups */
+    TAB_LEVELS = 200       /* most levels of a list in a text or in groups */
 };
 
 /* Words of a table of n cells, and the words to lend as its work space; n is 1 to TAB_CELLS. */
@@ -165,16 +186,18 @@ enum {
     TAB_HOLDER = 7,       /* a holder that is used has a number over 63 */
     TAB_SAME = 8,         /* a = b in an operation that uses both */
     TAB_NULL = 9,         /* DECAP, ADV or FIRST of a null list */
-    TAB_OCCUPIED = 10,    /* a holder that is to get a list has one: b of DECAP, ADV, BORROW, CINV, or tab_read's */
+    TAB_OCCUPIED = 10,    /* a holder that is to get a list has one: b of DECAP, ADV, BORROW, CINV, or to read into */
     TAB_SHARED = 11,      /* DECAP: the first cell has a count over 1; INV: some cell of a's main level has;
                              CONC: the same, when b is not null */
     TAB_NO_ROOM = 12,     /* too few free cells: PFA and PFL need 1, CINV the length of a, reading the list's extent */
-    TAB_TEXT_SIZE = 13,   /* the text's length is over 65,520 bytes or no multiple of 72 */
-    TAB_END = 14,         /* the text has 0 bytes, or is whole records of blanks and nothing else */
+    TAB_TEXT_SIZE = 13,   /* text or groups of over 65,520 bytes; a text's length is no multiple of 72 */
+    TAB_END = 14,         /* text or groups of 0 bytes; a text of whole records of blanks and nothing else */
     TAB_NOT_A_LIST = 15,  /* a byte that may not stand where it is, or a text that ends before its list does */
     TAB_ATOM = 16,        /* an atom that goes on to a twelfth digit, or whose eleventh takes it past 2^32 - 1 */
-    TAB_DEEP = 17,        /* a "(" of level 201 where a "(" may stand */
-    TAB_OUTPUT = 18       /* the output cannot take all characters of the list */
+    TAB_DEEP = 17,        /* a "(" of level 201 where a "(" may stand; in groups the number of a list of level 201 */
+    TAB_OUTPUT = 18,      /* the output cannot take all characters, or all groups, of the list */
+    TAB_GROUPS = 19       /* groups that end before their list does, a number in more groups than needed or of 2^33 and
+                             more, or an atom where the list should start */
 };
 
 /*
@@ -188,6 +211,16 @@ typedef struct {
 
 /* It comes back in one register of 64 bits, as the calling conventions of x86-64 and aarch64 have it. */
 TAB_ASSUMES(an_outcome_of_two_words, sizeof(tab_outcome) == 8 && offsetof(tab_outcome, count) == 4);
+
+/* What a move from one stored form to the other gives: its answer, and two numbers, 0 after any but TAB_DONE. */
+typedef struct {
+    uint32_t answer;
+    uint32_t taken;   /* bytes of the input that the list took */
+    uint32_t written; /* bytes of the output that were written */
+} tab_moved;
+
+TAB_ASSUMES(a_move_of_three_words,
+            sizeof(tab_moved) == 12 && offsetof(tab_moved, taken) == 4 && offsetof(tab_moved, written) == 8);
 
 /* The version of the library: TAB_VERSION, if header and library belong together. */
 uint32_t tab_version(void);
@@ -270,7 +303,7 @@ tab_outcome tab_run(uint32_t *table, size_t table_words, uint32_t *work, size_t 
  * bytes that are left. Where no byte is left, or blanks alone, the call for it answers TAB_END.
  *
  * Cost: the table once, the list's text twice. 65,520 bytes take 63 to 121 microseconds. A text that starts
- * with a blank is looked through for another byte; one that starts with "(" is not. Stack: 1,008 bytes.
+ * with a blank is looked through for another byte; one that starts with "(" is not. Stack: 1,136 bytes.
  */
 tab_outcome tab_read(uint32_t *table, size_t table_words, uint32_t *work, size_t work_words, uint32_t holder,
                      const uint8_t *text, size_t bytes);
@@ -289,7 +322,7 @@ tab_outcome tab_read(uint32_t *table, size_t table_words, uint32_t *work, size_t
  *
  * count: after TAB_DONE the bytes written, a multiple of 72 that is at least 72. Output from there on is unchanged.
  *
- * Cost: the table once, the list twice. 65,520 bytes take 182 to 187 microseconds. Stack: 1,792 bytes.
+ * Cost: the table once, the list twice. 65,520 bytes take 182 to 187 microseconds. Stack: 1,824 bytes.
  */
 tab_outcome tab_write(const uint32_t *table, size_t table_words, uint32_t *work, size_t work_words, uint32_t holder,
                       uint8_t *out, size_t room);
@@ -320,10 +353,91 @@ tab_outcome tab_check(const uint8_t *text, size_t bytes);
 size_t tab_rest(const uint8_t *text, size_t bytes);
 
 /*
+ * Reads the list at the start of groups into a holder that is null, as tab_read does from text: a list takes the same
+ * cells in the same order from either form.
+ *
+ * table, words       the pool
+ * work, work_words   work space
+ * holder             0 to 63
+ * groups, bytes      the groups, unchanged; bytes behind the list are not looked at
+ *
+ * Answers in this order: TAB_TABLE_SIZE, TAB_WORK_SPACE, TAB_HOLDER, TAB_TEXT_SIZE (over TAB_TEXT bytes), TAB_END (0
+ * bytes), TAB_UNSOUND, TAB_OCCUPIED, the fault that comes first along the bytes (TAB_GROUPS, or TAB_DEEP at the number
+ * of a list of level 201, the null list's too), TAB_NO_ROOM, TAB_DONE. After any but TAB_DONE the table is unchanged.
+ *
+ * A list may say that it has more elements than there are bytes: that alone is no fault, and what stands behind it is
+ * read until a fault is met or the bytes end. The work is bounded by the bytes, never by such a number.
+ *
+ * count: after TAB_DONE the bytes taken; the next list, if any, starts at groups + count.
+ *
+ * Cost: the table once, and linear in the bytes. 65,473 bytes of lists 199 levels deep take 224
+ * microseconds. Stack: 39,428 bytes at 200 levels.
+ */
+tab_outcome tab_read_groups(uint32_t *table, size_t words, uint32_t *work, size_t work_words, uint32_t holder,
+                            const uint8_t *groups, size_t bytes);
+
+/*
+ * Writes a holder's list as groups.
+ *
+ * table, words       the pool, unchanged
+ * work, work_words   work space
+ * holder             0 to 63
+ * out, room          where the groups go; of it up to TAB_TEXT bytes can be used
+ *
+ * Answers in this order: TAB_TABLE_SIZE, TAB_WORK_SPACE, TAB_HOLDER, TAB_UNSOUND, then whichever comes at the earlier
+ * number: TAB_DEEP (a list of level 201) or TAB_OUTPUT (a number of which some byte lies behind the usable output),
+ * TAB_DEEP if both are at the same; else TAB_DONE. After any but TAB_DONE the output is unchanged.
+ *
+ * count: after TAB_DONE the bytes written, at least 1. Output from there on is unchanged.
+ *
+ * Cost: the table once, and linear in the bytes. 32,793 bytes take 206 microseconds. Stack: 1,824
+ * bytes.
+ */
+tab_outcome tab_write_groups(const uint32_t *table, size_t words, uint32_t *work, size_t work_words, uint32_t holder,
+                             uint8_t *out, size_t room);
+
+/*
+ * Moves the list at the start of a text to groups. It needs no table and no work space, and sets no limit to the list's
+ * extent.
+ *
+ * text, bytes   the text, unchanged; records behind the list's last are not looked at
+ * out, room     where the groups go; of it up to TAB_TEXT bytes can be used
+ *
+ * Answers TAB_TEXT_SIZE, TAB_END, the earliest of TAB_NOT_A_LIST, TAB_ATOM and TAB_DEEP, then TAB_OUTPUT, or TAB_DONE.
+ * After any but TAB_DONE the output is unchanged.
+ *
+ * taken: the bytes that tab_check counts, a multiple of 72. written: at least 1. Output from there on is unchanged.
+ *
+ * Cost: linear in the text's bytes. 65,520 bytes take 75 to 256 microseconds. Stack: 960 bytes.
+ */
+tab_moved tab_text_to_groups(const uint8_t *text, size_t bytes, uint8_t *out, size_t room);
+
+/*
+ * Moves the list at the start of groups to text, as tab_write would write it: no leading zeros, the last record filled
+ * with blanks. It needs no table and no work space, and sets no limit to the list's extent.
+ *
+ * groups, bytes   the groups, unchanged; bytes behind the list are not looked at
+ * out, room       where the text goes; of it the largest multiple of 72 bytes up to TAB_TEXT can be used
+ *
+ * Answers TAB_TEXT_SIZE (over TAB_TEXT bytes), TAB_END (0 bytes), the earlier of TAB_GROUPS and TAB_DEEP, then
+ * TAB_OUTPUT, or TAB_DONE. After any but TAB_DONE the output is unchanged.
+ *
+ * taken: the bytes of the list's groups. written: a multiple of 72 that is at least 72. Output from there on is
+ * unchanged.
+ *
+ * Cost: linear in the bytes of both forms. 65,520 bytes of text take 38 to 202 microseconds.
+ * Stack: 960 bytes.
+ *
+ * Groups that are moved to text and back are the same bytes, those that were taken; text that is moved to groups and
+ * back is the same but for leading zeros, which are gone, and its fill, which is new.
+ */
+tab_moved tab_groups_to_text(const uint8_t *groups, size_t bytes, uint8_t *out, size_t room);
+
+/*
  * Helpers that are in this header alone; the archive has no name for them.
  *
- * The free cells of a table, met along the free chain; of a table that is not sound the cells up to where the chain leaves
- * the table, N at most; 0 if the table has not TAB_TABLE_WORDS(N) words.
+ * The free cells of a table, met along the free chain; of a table that is not sound the cells up to where the chain
+ * leaves the table, N at most; 0 if the table has not TAB_TABLE_WORDS(N) words.
  */
 static inline uint32_t tab_free_cells(const uint32_t *table, size_t words) {
     uint32_t met = 0, cell;
@@ -336,7 +450,7 @@ static inline uint32_t tab_free_cells(const uint32_t *table, size_t words) {
 static inline const char *tab_answer_name(uint32_t answer) {
     static const char *const name[] = {"DONE",     "TABLE SIZE", "WORK SPACE", "SCRIPT",     "RESULTS", "UNSOUND", "CODE",
                                        "HOLDER",   "SAME",       "NULL",       "OCCUPIED",   "SHARED",  "NO ROOM", "TEXT SIZE",
-                                       "END",      "NOT A LIST", "ATOM",       "DEEP",       "OUTPUT"};
+                                       "END",      "NOT A LIST", "ATOM",       "DEEP",       "OUTPUT",  "GROUPS"};
     return answer < sizeof name / sizeof name[0] ? name[answer] : "unknown";
 }
 

@@ -10,16 +10,19 @@
 #include "reference.h"
 #include "texts.h"
 
-enum { SET_UP, RUN, READ, WRITE, CHECK, REST, CALLS };
-static const char *const call_name[CALLS] = {"set_up", "run", "read", "write", "check", "rest"};
+enum { SET_UP, RUN, READ, WRITE, CHECK, REST, READ_GROUPS, WRITE_GROUPS, TO_GROUPS, TO_TEXT, CALLS };
+static const char *const call_name[CALLS] = {
+    "set_up", "run", "read", "write", "check", "rest", "read_groups", "write_groups", "text_to_groups", "groups_to_text"};
+enum { ANSWERS = 20 };
 
 lent table, work, script, results, in, out;
 unsigned long long seed = 1, this_case, different;
 int calls_in_case, loud;
 
 static int this_call;
-static unsigned long long calls_made, answered[CALLS][19]; /* by answer */
-static unsigned long long done[12], refused[12][19];       /* operations by code; code 0: any other */
+static unsigned long long calls_made, answered[CALLS][ANSWERS]; /* by answer */
+static unsigned long long done[12], refused[12][ANSWERS];       /* operations by code; code 0: any other */
+static unsigned long long groups_faults[CALLS][GROUPS_FAULTS];  /* answers 19 by kind */
 
 uint32_t *own(lent *l) { return (uint32_t *)(void *)l->own; }
 
@@ -33,26 +36,48 @@ static void begin(int call) {
     calls_made++;
 }
 
+static int unequal(tab_moved a, tab_moved b) {
+    return a.answer != b.answer || a.taken != b.taken || a.written != b.written;
+}
+
+static void show_numbers(tab_moved m) {
+    if (this_call < TO_GROUPS) printf("answer %u, count %u", m.answer, m.taken);
+    else printf("answer %u, taken %u, written %u", m.answer, m.taken, m.written);
+}
+
 /* `number`: the one argument that is no memory, if there is one. */
-static void show(const char *number_name, uint32_t number, tab_outcome got, tab_outcome should) {
+static void show(const char *number_name, uint32_t number, tab_moved got, tab_moved should) {
     printf("  %s", call_name[this_call]);
     if (number_name) printf(", %s %u", number_name, number);
-    printf(": answer %u, count %u", got.answer, got.count);
-    if (got.answer != should.answer || got.count != should.count)
-        printf(", should be answer %u, count %u", should.answer, should.count);
+    printf(": ");
+    show_numbers(got);
+    if (unequal(got, should)) printf(", should be "), show_numbers(should);
     printf("\n");
 }
 
-static void compare(const char *number_name, uint32_t number, tab_outcome got, tab_outcome should, lent *const *all,
-                    int count) {
-    int differs = got.answer != should.answer || got.count != should.count;
+static void compare_moves(const char *number_name, uint32_t number, tab_moved got, tab_moved should, lent *const *all,
+                          int count) {
+    int differs = unequal(got, should);
     for (int i = 0; i < count; i++) differs |= lent_differs(all[i]);
     answered[this_call][should.answer]++;
+    if (should.answer == TAB_GROUPS) groups_faults[this_call][ref_groups_fault]++;
     if (loud || differs) show(number_name, number, got, should);
     if (!differs) return;
     for (int i = 0; i < count; i++) lent_show(all[i], loud ? MOST_BYTES : 120);
     printf("DIFFERENT: tab_%s, call %d of the case. Replay: tests/diff %llu %llu\n", call_name[this_call],
            calls_in_case, seed, this_case);
+    different++;
+}
+
+static void compare(const char *number_name, uint32_t number, tab_outcome got, tab_outcome should, lent *const *all,
+                    int count) {
+    tab_moved of_library = {got.answer, got.count, 0}, of_reference = {should.answer, should.count, 0};
+    compare_moves(number_name, number, of_library, of_reference, all, count);
+}
+
+void must_hold(int holds, const char *what) {
+    if (holds) return;
+    printf("DIFFERENT: %s, call %d of the case. Replay: tests/diff %llu %llu\n", what, calls_in_case, seed, this_case);
     different++;
 }
 
@@ -102,29 +127,69 @@ tab_outcome call_run(size_t table_words, size_t work_words, size_t script_words,
     return should;
 }
 
-tab_outcome call_read(size_t table_words, size_t work_words, uint32_t holder, size_t bytes) {
-    begin(READ);
+typedef tab_outcome (*reader)(uint32_t *, size_t, uint32_t *, size_t, uint32_t, const uint8_t *, size_t);
+typedef tab_outcome (*writer)(const uint32_t *, size_t, uint32_t *, size_t, uint32_t, uint8_t *, size_t);
+typedef tab_moved (*mover)(const uint8_t *, size_t, uint8_t *, size_t);
+
+static tab_outcome call_reader(int call, reader of_library, reader of_reference, size_t table_words, size_t work_words,
+                               uint32_t holder, size_t bytes) {
+    begin(call);
     fill_random(work.own, 4 * work_words);
     lend(&table, table_words);
     lend(&work, work_words);
     lend(&in, bytes);
-    tab_outcome should = ref_read(own(&table), table_words, own(&work), work_words, holder, in.own, bytes);
-    tab_outcome got = tab_read(words(&table), table_words, words(&work), work_words, holder, in.at, bytes);
+    tab_outcome should = of_reference(own(&table), table_words, own(&work), work_words, holder, in.own, bytes);
+    tab_outcome got = of_library(words(&table), table_words, words(&work), work_words, holder, in.at, bytes);
     compare("holder", holder, got, should, (lent *const[]){&table, &work, &in}, 3);
     return should;
 }
 
-tab_outcome call_write(size_t table_words, size_t work_words, uint32_t holder, size_t room) {
-    begin(WRITE);
+static tab_outcome call_writer(int call, writer of_library, writer of_reference, size_t table_words, size_t work_words,
+                               uint32_t holder, size_t room) {
+    begin(call);
     fill_random(work.own, 4 * work_words);
     fill_random(out.own, room);
     lend(&table, table_words);
     lend(&work, work_words);
     lend(&out, room);
-    tab_outcome should = ref_write(own(&table), table_words, own(&work), work_words, holder, out.own, room);
-    tab_outcome got = tab_write(words(&table), table_words, words(&work), work_words, holder, out.at, room);
+    tab_outcome should = of_reference(own(&table), table_words, own(&work), work_words, holder, out.own, room);
+    tab_outcome got = of_library(words(&table), table_words, words(&work), work_words, holder, out.at, room);
     compare("holder", holder, got, should, (lent *const[]){&table, &work, &out}, 3);
     return should;
+}
+
+static tab_moved call_mover(int call, mover of_library, mover of_reference, size_t bytes, size_t room) {
+    begin(call);
+    fill_random(out.own, room);
+    lend(&in, bytes);
+    lend(&out, room);
+    tab_moved should = of_reference(in.own, bytes, out.own, room), got = of_library(in.at, bytes, out.at, room);
+    compare_moves(NULL, 0, got, should, (lent *const[]){&in, &out}, 2);
+    return should;
+}
+
+tab_outcome call_read(size_t table_words, size_t work_words, uint32_t holder, size_t bytes) {
+    return call_reader(READ, tab_read, ref_read, table_words, work_words, holder, bytes);
+}
+
+tab_outcome call_read_groups(size_t table_words, size_t work_words, uint32_t holder, size_t bytes) {
+    return call_reader(READ_GROUPS, tab_read_groups, ref_read_groups, table_words, work_words, holder, bytes);
+}
+
+tab_outcome call_write(size_t table_words, size_t work_words, uint32_t holder, size_t room) {
+    return call_writer(WRITE, tab_write, ref_write, table_words, work_words, holder, room);
+}
+
+tab_outcome call_write_groups(size_t table_words, size_t work_words, uint32_t holder, size_t room) {
+    return call_writer(WRITE_GROUPS, tab_write_groups, ref_write_groups, table_words, work_words, holder, room);
+}
+
+tab_moved call_text_to_groups(size_t bytes, size_t room) {
+    return call_mover(TO_GROUPS, tab_text_to_groups, ref_text_to_groups, bytes, room);
+}
+
+tab_moved call_groups_to_text(size_t bytes, size_t room) {
+    return call_mover(TO_TEXT, tab_groups_to_text, ref_groups_to_text, bytes, room);
 }
 
 tab_outcome call_check(size_t bytes) {
@@ -153,7 +218,7 @@ void calls_start(void) {
     lent_make(&work, "work", 4, 8100);
     lent_make(&script, "script", 4, 16500);
     lent_make(&results, "results", 4, 8300);
-    lent_make(&in, "text", 1, MOST_BYTES);
+    lent_make(&in, "input", 1, MOST_BYTES);
     lent_make(&out, "out", 1, MOST_BYTES);
     signal(SIGSEGV, no_answer);
     signal(SIGBUS, no_answer);
@@ -175,6 +240,11 @@ static const unsigned answers[CALLS] = {
     [WRITE] = SET(0) | SET(1) | SET(2) | SET(5) | SET(7) | SET(17) | SET(18),
     [CHECK] = SET(0) | SET(13) | SET(14) | SET(15) | SET(16) | SET(17),
     [REST] = SET(0) | SET(1),
+    [READ_GROUPS] = SET(0) | SET(1) | SET(2) | SET(5) | SET(7) | SET(10) | SET(12) | SET(13) | SET(14) | SET(17) |
+                    SET(19),
+    [WRITE_GROUPS] = SET(0) | SET(1) | SET(2) | SET(5) | SET(7) | SET(17) | SET(18),
+    [TO_GROUPS] = SET(0) | SET(13) | SET(14) | SET(15) | SET(16) | SET(17) | SET(18),
+    [TO_TEXT] = SET(0) | SET(13) | SET(14) | SET(17) | SET(18) | SET(19),
 };
 
 /* The answers that can refuse each operation. */
@@ -193,18 +263,30 @@ static const unsigned refusals[12] = {
     [TAB_LENGTH] = SET(7),
 };
 
-int too_weak(void) {
+static const char *const fault_name[GROUPS_FAULTS] = {"runs out", "too many groups", "too large", "an atom at the top"};
+
+static int calls_too_weak(void) {
     int weak = 0;
     for (int call = 0; call < CALLS; call++) {
-        for (unsigned a = 0; a < 19; a++) {
+        for (unsigned a = 0; a < ANSWERS; a++) {
             if ((answers[call] & SET(a)) == 0 || answered[call][a] > 0) continue;
             printf("tests: tab_%s never answered %u\n", call_name[call], a);
             weak = 1;
         }
+        for (int why = 0; why < GROUPS_FAULTS; why++) {
+            if ((answers[call] & SET(TAB_GROUPS)) == 0 || groups_faults[call][why] > 0) continue;
+            printf("tests: tab_%s never met 19 for \"%s\"\n", call_name[call], fault_name[why]);
+            weak = 1;
+        }
     }
+    return weak;
+}
+
+int too_weak(void) {
+    int weak = calls_too_weak();
     for (unsigned code = 0; code < 12; code++) {
         if (code > 0 && done[code] == 0) printf("tests: operation %u was never done\n", code), weak = 1;
-        for (unsigned a = 0; a < 19; a++) {
+        for (unsigned a = 0; a < ANSWERS; a++) {
             if ((refusals[code] & SET(a)) == 0 || refused[code][a] > 0) continue;
             printf("tests: operation %u was never refused by %u\n", code, a);
             weak = 1;
@@ -217,8 +299,10 @@ void print_counts(void) {
     printf("tests: seed %llu: %llu calls, %llu different", seed, calls_made, different);
     for (int call = 0; call < CALLS; call++) {
         printf("; %s", call_name[call]);
-        for (int a = 0; a < 19; a++)
+        for (int a = 0; a < ANSWERS; a++)
             if (answered[call][a] > 0) printf(" %d:%llu", a, answered[call][a]);
+        for (int why = 0; why < GROUPS_FAULTS; why++)
+            if (groups_faults[call][why] > 0) printf(" (19 %s:%llu)", fault_name[why], groups_faults[call][why]);
     }
     printf("\n");
 }

@@ -1,5 +1,5 @@
 /*
- * One call, made twice: by the library on memory lent for it, by the reference on a copy. The answers, the counts and
+ * One call, made twice: by the library on memory lent for it, by the reference on a copy. The answers, the numbers and
  * all that was lent are compared. Whoever makes a call first puts what is to be lent in `own` of the runs below; work
  * space, results and output are filled at random.
  */
@@ -30,11 +30,19 @@ tab_outcome call_read(size_t table_words, size_t work_words, uint32_t holder, si
 tab_outcome call_write(size_t table_words, size_t work_words, uint32_t holder, size_t room);
 tab_outcome call_check(size_t bytes);
 size_t call_rest(size_t bytes);
+tab_outcome call_read_groups(size_t table_words, size_t work_words, uint32_t holder, size_t bytes);
+tab_outcome call_write_groups(size_t table_words, size_t work_words, uint32_t holder, size_t room);
+tab_moved call_text_to_groups(size_t bytes, size_t room);
+tab_moved call_groups_to_text(size_t bytes, size_t room);
+
+/* Says that something does not hold between calls that did not differ, each by itself; counts it as a difference. */
+void must_hold(int holds, const char *what);
 
 /* One line: the calls made, by call and answer. */
 void print_counts(void);
 
-/* Says which answers never came up, and which refusals of which operations: then the test is too weak to be trusted. */
+/* Says which answers never came up, which kinds of answer 19, and which refusals of which operations: then the test is
+   too weak to be trusted. */
 int too_weak(void);
 
 #endif

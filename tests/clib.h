@@ -12,13 +12,16 @@ typedef __UINTPTR_TYPE__ uintptr_t;
 #define offsetof(type, member) __builtin_offsetof(type, member)
 
 int printf(const char *form, ...);
-extern void *stdin, *stdout;
+extern void *stdin, *stdout, *stderr;
+int fprintf(void *file, const char *form, ...);
 int fflush(void *file);
+int ferror(void *file);
 size_t fread(void *to, size_t bytes, size_t times, void *file);
 size_t fwrite(const void *from, size_t bytes, size_t times, void *file);
 void exit(int status);
 void _exit(int status);
 void *malloc(size_t bytes);
+void *realloc(void *at, size_t bytes);
 unsigned long long strtoull(const char *text, char **end, int base);
 void *memcpy(void *to, const void *from, size_t bytes);
 void *memset(void *to, int byte, size_t bytes);

@@ -7,7 +7,8 @@
  *   diff SEED FROM TO     the cases FROM to TO - 1
  *
  * The first cases go through all small words of a pool of two cells, the next through all numbers of records with
- * blanks. Each other case is a story: a table, and some calls on it one after the other, each disturbed now and then.
+ * blanks, the next through all groups of two bytes with something behind them. Each other case is a story: a table, and
+ * some calls on it one after the other, each disturbed now and then.
  * Status 0: no difference, and every answer came up.
  */
 #include <stdio.h>
@@ -16,6 +17,7 @@
 #include <unistd.h>
 
 #include "calls.h"
+#include "groups.h"
 #include "random.h"
 #include "reference.h"
 #include "tables.h"
@@ -23,7 +25,8 @@
 
 enum { SWEEP_TABLES = 589824, SWEEP_STEP = 256, SWEEP_CASES = SWEEP_TABLES / SWEEP_STEP };
 enum { MOST_RECORDS = 911 }; /* one more than a text may have */
-enum { FIRST_STORY = SWEEP_CASES + MOST_RECORDS, STORIES = 90000 };
+enum { FIRST_BYTES = 256 };  /* a case for each first byte of groups */
+enum { FIRST_GROUPS = SWEEP_CASES + MOST_RECORDS, FIRST_STORY = FIRST_GROUPS + FIRST_BYTES, STORIES = 90000 };
 enum { MOST_DIFFERENT = 5, SECONDS = 60 }; /* the test ends after so many differences, or so long in one case */
 
 /* ---- A story: n cells, the table as it is now (sound, unless it began as noise), and a few holders that are used */
@@ -137,26 +140,47 @@ static uint32_t holder_to_read_into(void) {
     return h;
 }
 
+/* A table that just has room for so many cells, or just has not. */
+static void fresh_table(uint32_t extent) {
+    uint32_t cells = extent + below(3);
+    n = cells < 2 ? 1 : cells > 4001 ? 4000 : cells - 1;
+    ref_set_up(now, table_length(), n);
+}
+
+/* Reads what is in `in` into the story's table, or into one of about the list's own size. */
+static void read_into_table(tab_outcome (*call)(size_t, size_t, uint32_t, size_t), uint32_t extent, size_t bytes) {
+    if (chance(15)) fresh_table(extent);
+    size_t table_words = place_table(), work_words = work_length();
+    uint32_t h = holder_to_read_into();
+    take_over(call(table_words, work_words, h, bytes), 0);
+}
+
 static void story_read(void) {
     static text x;
     make_text(&x, large && chance(60));
-    if (chance(15)) { /* a table that just has room, or just has not */
-        uint32_t cells = x.extent + below(3);
-        n = cells < 2 ? 1 : cells > 4001 ? 4000 : cells - 1;
-        ref_set_up(now, table_length(), n);
-    }
     memcpy(in.own, x.byte, x.bytes);
-    size_t table_words = place_table(), work_words = work_length();
-    uint32_t h = holder_to_read_into();
-    take_over(call_read(table_words, work_words, h, x.bytes), 0);
+    read_into_table(call_read, x.extent, x.bytes);
+}
+
+static void story_read_groups(void) {
+    static groups g;
+    make_groups(&g, large && chance(60));
+    memcpy(in.own, g.byte, g.bytes);
+    read_into_table(call_read_groups, g.extent, g.bytes);
+}
+
+/* Most often one whose list is not null, if there is one. */
+static uint32_t holder_to_write(void) {
+    uint32_t h = used_holder();
+    if (chance(90))
+        for (int tries = 0; tries < 64 && HOLDS(now, h) == 0; tries++) h = (h + 1) % 64;
+    return h;
 }
 
 static void story_write(void) {
     static uint8_t scratch[65520];
     static uint32_t scratch_work[8000];
-    uint32_t h = used_holder();
-    if (chance(90)) /* go on to a list that is not null, if there is one */
-        for (int tries = 0; tries < 64 && HOLDS(now, h) == 0; tries++) h = (h + 1) % 64;
+    uint32_t h = holder_to_write();
     size_t room = long_text || chance(3) ? 65520 : 720;
     tab_outcome o = ref_write(now, table_length(), scratch_work, sizeof scratch_work / 4, h, scratch, room);
     if (o.answer == 0) {
@@ -172,6 +196,107 @@ static void story_write(void) {
     if (chance(3)) h = chance(50) ? 64 : any_word() | 64;
     size_t table_words = place_table(), work_words = work_length();
     take_over(call_write(table_words, work_words, h, room), 0);
+}
+
+/* A room that is just enough, just not, or anything less. */
+static size_t room_near(uint32_t full) {
+    uint32_t less = below(full);
+    uint32_t rooms[] = {full, full, full, full + 1, full + 71, full - 1, full - 1, less, less, 0};
+    return rooms[below(sizeof rooms / sizeof rooms[0])];
+}
+
+/* The holder's list has 201 levels: a room where 17 and 18 meet at one number, or one beside it. */
+static size_t room_at_level_201(uint32_t h) {
+    static uint8_t scratch[65520];
+    static uint32_t scratch_work[8000];
+    size_t room = 0, step = 32768; /* the least room that gives 17 */
+    for (; step > 0; step /= 2)
+        if (ref_write_groups(now, table_length(), scratch_work, 8000, h, scratch, room + step - 1).answer == 18) room += step;
+    return room + below(3) - (room > 0);
+}
+
+static void story_write_groups(void) {
+    static uint8_t scratch[65520];
+    static uint32_t scratch_work[8000];
+    uint32_t h = holder_to_write();
+    tab_outcome o = ref_write_groups(now, table_length(), scratch_work, sizeof scratch_work / 4, h, scratch, 65520);
+    size_t room = o.answer == 0 ? room_near(o.count) : o.answer == 17 ? room_at_level_201(h) : below(2000);
+    if (chance(2)) room = from_to(65519, 65600);
+    if (chance(3)) h = chance(50) ? 64 : any_word() | 64;
+    size_t table_words = place_table(), work_words = work_length();
+    take_over(call_write_groups(table_words, work_words, h, room), 0);
+}
+
+static void story_text_to_groups(void) {
+    static uint8_t scratch[65520];
+    static text x;
+    make_text(&x, chance(1));
+    memcpy(in.own, x.byte, x.bytes);
+    tab_moved m = ref_text_to_groups(in.own, x.bytes, scratch, 65520);
+    call_text_to_groups(x.bytes, m.answer == 0 ? room_near(m.written) : below(80));
+}
+
+static void story_groups_to_text(void) {
+    static uint8_t scratch[65520];
+    static groups g;
+    make_groups(&g, chance(1));
+    memcpy(in.own, g.byte, g.bytes);
+    tab_moved m = ref_groups_to_text(in.own, g.bytes, scratch, 65520);
+    size_t room = m.answer == 0 ? room_near(m.written) : below(80);
+    if (chance(1)) room = from_to(65515, 65600);
+    call_groups_to_text(g.bytes, room);
+}
+
+/* ---- A list in both forms: there and back, and into cells */
+
+static text list_text;
+static groups list_groups;
+
+static void take_out(uint8_t *to, size_t bytes) { memcpy(to, out.own, bytes); }
+
+/* Makes a list in both forms, none of them at fault; 0 if the list that came up is refused. */
+static int list_in_both_forms(void) {
+    make_text(&list_text, chance(2));
+    memcpy(in.own, list_text.byte, list_text.bytes);
+    tab_moved m = call_text_to_groups(list_text.bytes, 65520);
+    if (m.answer != 0) return 0;
+    take_out(list_groups.byte, list_groups.bytes = m.written);
+    memcpy(in.own, list_groups.byte, list_groups.bytes);
+    m = call_groups_to_text(list_groups.bytes, 65520);
+    must_hold(m.answer == 0 && m.taken == list_groups.bytes, "the groups of a text are taken whole");
+    take_out(list_text.byte, list_text.bytes = m.written);
+    memcpy(in.own, list_text.byte, list_text.bytes);
+    m = call_text_to_groups(list_text.bytes, 65520);
+    must_hold(m.answer == 0 && m.taken == list_text.bytes && m.written == list_groups.bytes &&
+                  memcmp(out.own, list_groups.byte, m.written) == 0,
+              "groups come back from text byte for byte");
+    return 1;
+}
+
+/* Reads the list in both forms into the same table: the same answer and the same words, whatever the table is like. */
+static void story_both_forms(void) {
+    static uint32_t before[16070], after[16070];
+    if (!list_in_both_forms()) return;
+    if (chance(30)) fresh_table(list_text.extent);
+    size_t table_words = place_table(), work_words = work_length();
+    uint32_t h = holder_to_read_into();
+    memcpy(before, table.own, 4 * table_words);
+    memcpy(in.own, list_text.byte, list_text.bytes);
+    tab_outcome from_text = call_read(table_words, work_words, h, list_text.bytes);
+    memcpy(after, table.own, 4 * table_words);
+    memcpy(table.own, before, 4 * table_words);
+    memcpy(in.own, list_groups.byte, list_groups.bytes);
+    tab_outcome from_groups = call_read_groups(table_words, work_words, h, list_groups.bytes);
+    must_hold(from_text.answer == from_groups.answer && memcmp(after, table.own, 4 * table_words) == 0,
+              "both forms make the same cells");
+    take_over(from_groups, 0);
+    if (from_groups.answer != 0) return;
+    tab_outcome o = call_write_groups(table_words, work_words, h, 65520);
+    must_hold(o.count == list_groups.bytes && memcmp(out.own, list_groups.byte, o.count) == 0,
+              "what is read from groups is written back");
+    o = call_write(table_words, work_words, h, 65520);
+    must_hold(o.count == list_text.bytes && memcmp(out.own, list_text.byte, o.count) == 0,
+              "what is read from groups is written as its text");
 }
 
 static void story_check(void) {
@@ -220,11 +345,16 @@ static void story(void) {
     begin_story();
     for (uint32_t left = large ? 4 : from_to(4, 20); left > 0 && different == before; left--) {
         uint32_t what = below(100);
-        if (what < 50) story_run();
-        else if (what < 70) story_read();
-        else if (what < 85) story_write();
-        else if (what < 95) story_check();
-        else story_set_up();
+        if (what < 42) story_run();
+        else if (what < 57) story_read();
+        else if (what < 67) story_write();
+        else if (what < 73) story_check();
+        else if (what < 76) story_set_up();
+        else if (what < 84) story_read_groups();
+        else if (what < 90) story_write_groups();
+        else if (what < 93) story_text_to_groups();
+        else if (what < 98) story_groups_to_text();
+        else story_both_forms();
     }
 }
 
@@ -260,6 +390,21 @@ static void blank_records(uint32_t records) {
     }
 }
 
+/* ---- Short groups: this first byte, then each other, then nothing or something; as text and into a small table */
+
+static void short_groups(uint32_t first) {
+    static const uint8_t then[] = {0, 1, 2, 3, 127, 128, 129, 255};
+    n = 4;
+    for (uint32_t second = 0; second < 256 && different == 0; second++) {
+        uint32_t bytes = chance(50) ? 2 : from_to(3, 6);
+        in.own[0] = (uint8_t)first, in.own[1] = (uint8_t)second;
+        for (uint32_t i = 2; i < bytes; i++) in.own[i] = then[below(sizeof then)];
+        call_groups_to_text(bytes, 72 * below(3));
+        ref_set_up(own(&table), table_length(), n);
+        call_read_groups(table_length(), 2 * n, below(64), bytes);
+    }
+}
+
 /* ---- The whole */
 
 static void run_case(unsigned long long number) {
@@ -268,7 +413,8 @@ static void run_case(unsigned long long number) {
     alarm(SECONDS);
     start_random(seed, number);
     if (number < SWEEP_CASES) sweep((uint32_t)number * SWEEP_STEP);
-    else if (number < FIRST_STORY) blank_records((uint32_t)number - SWEEP_CASES + 1);
+    else if (number < FIRST_GROUPS) blank_records((uint32_t)number - SWEEP_CASES + 1);
+    else if (number < FIRST_STORY) short_groups((uint32_t)number - FIRST_GROUPS);
     else story();
 }
 

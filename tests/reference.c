@@ -1,7 +1,8 @@
 /*
  * The calls of tabeshilo.h as the rules have them, in the plainest way: a table is unpacked into a struct, counts are
- * tallied, rings are looked for depth first, waiting lists stand in an array, text is read by recursive descent into a
- * tree. Nothing here is taken from the engine's code, and nothing is done for speed.
+ * tallied, rings are looked for depth first, waiting lists stand in an array, text and groups are read by recursive
+ * descent into a tree, and both forms are written from a tree or from cells by the same recursion. Nothing here is
+ * taken from the engine's code, and nothing is done for speed.
  */
 #include "reference.h"
 
@@ -288,7 +289,7 @@ static void perform(operation o, uint32_t result[2]) {
 typedef struct {
     int is_list;
     uint32_t atom;
-    int first, next; /* the first element of a list; the element after this one; -1 if there is none */
+    uint32_t first, next; /* the first element of a list; the element after this one; 0 if there is none */
 } node;
 
 typedef struct {
@@ -297,8 +298,17 @@ typedef struct {
     uint32_t fault;
 } reader;
 
-static node nodes[65520];
-static int node_count;
+static node nodes[65521]; /* nodes[0] is not used; no stored list has more elements than bytes */
+static uint32_t node_count;
+
+/* A new element, behind the one before it in its list or as the first of all. */
+static uint32_t new_node(uint32_t before, uint32_t *first) {
+    uint32_t me = ++node_count;
+    nodes[me] = (node){0, 0, 0, 0};
+    if (before == 0) *first = me;
+    else nodes[before].next = me;
+    return me;
+}
 
 /* The character at the reader's place, or -1 where the text has run out. */
 static int look(const reader *r) { return r->at < r->bytes ? r->byte[r->at] : -1; }
@@ -321,38 +331,34 @@ static uint32_t read_atom(reader *r) {
 }
 
 /* Reads the list that opens this level, and gives its first element. The fault, if there is one, is the earliest. */
-static int read_list(reader *r, int level) {
-    int first = -1, last = -1;
+static uint32_t read_list(reader *r, int level) {
+    uint32_t first = 0, me = 0;
     if (look(r) != '(') {
         r->fault = 15;
-        return -1;
+        return 0;
     }
     if (level > 200) {
         r->fault = 17;
-        return -1;
+        return 0;
     }
     r->at++;
     if (look(r) == ')') {
         r->at++;
-        return -1;
+        return 0;
     }
     for (;;) {
-        int me = node_count++;
-        nodes[me] = (node){0, 0, -1, -1};
-        if (last < 0) first = me;
-        else nodes[last].next = me;
-        last = me;
+        me = new_node(me, &first);
         if (is_digit(look(r))) {
             nodes[me].atom = read_atom(r);
         } else {
             nodes[me].is_list = 1;
             nodes[me].first = read_list(r, level + 1);
         }
-        if (r->fault) return -1;
+        if (r->fault) return 0;
         int ch = look(r);
         if (ch != ',' && ch != ')') {
             r->fault = 15;
-            return -1;
+            return 0;
         }
         r->at++;
         if (ch == ')') return first;
@@ -360,7 +366,7 @@ static int read_list(reader *r, int level) {
 }
 
 /* Reads the whole text; the tree's first element goes to *first, the bytes taken to *taken. Gives the answer. */
-static uint32_t parse(const uint8_t *text, size_t bytes, int *first, uint32_t *taken) {
+static uint32_t parse(const uint8_t *text, size_t bytes, uint32_t *first, uint32_t *taken) {
     reader r = {text, bytes, 0, 0};
     node_count = 0;
     *first = read_list(&r, 1);
@@ -386,19 +392,85 @@ static uint32_t early_fault(const uint8_t *text, size_t bytes) {
     return 0;
 }
 
-static uint32_t extent(int element) {
+/* ---- Groups into a tree */
+
+enum groups_fault ref_groups_fault;
+
+static uint64_t groups_fault(reader *r, enum groups_fault why) {
+    r->fault = 19;
+    ref_groups_fault = why;
+    return 0;
+}
+
+/* Finds the number's last byte first, and adds up from there. */
+static uint64_t read_number(reader *r) {
+    uint64_t value = 0;
+    size_t first = r->at, last = first;
+    while (last < r->bytes && r->byte[last] >= 128) last++;
+    if (last == r->bytes) return groups_fault(r, RUNS_OUT);
+    if (last > first && r->byte[last] == 0) return groups_fault(r, TOO_MANY_GROUPS);
+    for (size_t i = last + 1; i > first; i--) {
+        value = value * 128 + r->byte[i - 1] % 128;
+        if (value >= 8589934592) return groups_fault(r, TOO_LARGE);
+    }
+    r->at = last + 1;
+    return value;
+}
+
+static uint32_t read_elements(reader *r, uint64_t left, int level);
+
+/* Makes the element of a number that was read; if it is a list, its own elements follow and are read too. */
+static void read_element(reader *r, uint32_t me, uint64_t number, int level) {
+    nodes[me].is_list = number % 2 == 1;
+    if (number % 2 == 0) nodes[me].atom = (uint32_t)(number / 2);
+    else if (level == 200) r->fault = 17;
+    else nodes[me].first = read_elements(r, number / 2, level + 1);
+}
+
+/* Reads so many elements of a list of this level, and gives the first of them. */
+static uint32_t read_elements(reader *r, uint64_t left, int level) {
+    uint32_t first = 0, me = 0;
+    for (; left > 0 && !r->fault; left--) {
+        uint64_t number = read_number(r);
+        if (r->fault) break;
+        me = new_node(me, &first);
+        read_element(r, me, number, level);
+    }
+    return first;
+}
+
+/* Reads the list at the start of groups; as parse does for text. */
+static uint32_t parse_groups(const uint8_t *groups, size_t bytes, uint32_t *first, uint32_t *taken) {
+    reader r = {groups, bytes, 0, 0};
+    node_count = 0;
+    uint64_t number = read_number(&r);
+    if (!r.fault && number % 2 == 0) groups_fault(&r, ATOM_AT_TOP);
+    if (!r.fault) *first = read_elements(&r, number / 2, 1);
+    *taken = (uint32_t)r.at;
+    return r.fault;
+}
+
+static uint32_t early_groups_fault(const uint8_t *groups, size_t bytes) {
+    (void)groups;
+    if (bytes > 65520) return 13;
+    return bytes == 0 ? 14 : 0;
+}
+
+/* ---- Both forms */
+
+static uint32_t extent(uint32_t element) {
     uint32_t k = 0;
-    for (; element >= 0; element = nodes[element].next) {
+    for (; element != 0; element = nodes[element].next) {
         k++;
         if (nodes[element].is_list) k += extent(nodes[element].first);
     }
     return k;
 }
 
-/* Makes cells for the elements from this one on, in the order in which they begin in the text. */
-static uint32_t build(int element) {
+/* Makes cells for the elements from this one on, in the order in which they begin in the stored form. */
+static uint32_t build(uint32_t element) {
     uint32_t first = 0, last = 0;
-    for (; element >= 0; element = nodes[element].next) {
+    for (; element != 0; element = nodes[element].next) {
         uint32_t c = new_cell((uint32_t)nodes[element].is_list, nodes[element].atom, 0);
         if (nodes[element].is_list) p.at[c].e = build(nodes[element].first);
         if (last == 0) first = c;
@@ -408,39 +480,101 @@ static uint32_t build(int element) {
     return first;
 }
 
-/* ---- A list into text */
+/* ---- A list into text or groups, from the cells of the pool or from the tree */
 
 typedef struct {
+    node (*element)(uint32_t); /* an element by its number: that of its cell, or its place in the tree */
     uint8_t byte[65520];
     size_t bytes, usable;
     uint32_t fault;
 } writer;
 
-static void put(writer *w, char ch) {
-    if (w->fault) return;
-    if (w->bytes >= w->usable) w->fault = 18;
-    else w->byte[w->bytes++] = (uint8_t)ch;
+static writer w;
+
+static node from_cell(uint32_t c) {
+    cell me = p.at[c];
+    return (node){me.t == 1, me.e, me.t == 1 ? me.e : 0, me.s};
 }
 
-static void put_atom(writer *w, uint32_t atom) {
-    if (atom >= 8) put_atom(w, atom / 8);
-    put(w, (char)('0' + atom % 8));
+static node from_tree(uint32_t i) { return nodes[i]; }
+
+static size_t least(size_t a, size_t b) { return a < b ? a : b; }
+
+static size_t usable_for_text(size_t room) { return least(room, 65520) / 72 * 72; }
+
+static size_t usable_for_groups(size_t room) { return least(room, 65520); }
+
+static void start_writing(node (*element)(uint32_t), size_t usable) {
+    w.element = element;
+    w.bytes = 0;
+    w.usable = usable;
+    w.fault = 0;
 }
 
-static void put_list(writer *w, uint32_t c, int level) {
-    if (w->fault) return;
+static void put(char ch) {
+    if (w.fault) return;
+    if (w.bytes >= w.usable) w.fault = 18;
+    else w.byte[w.bytes++] = (uint8_t)ch;
+}
+
+static void put_atom(uint32_t atom) {
+    if (atom >= 8) put_atom(atom / 8);
+    put((char)('0' + atom % 8));
+}
+
+static void put_list(uint32_t i, int level) {
+    if (w.fault) return;
     if (level > 200) {
-        w->fault = 17;
+        w.fault = 17;
         return;
     }
-    put(w, '(');
-    for (uint32_t first = c; c != 0 && !w->fault; c = p.at[c].s) {
-        if (c != first) put(w, ',');
-        if (p.at[c].t == 1) put_list(w, p.at[c].e, level + 1);
-        else put_atom(w, p.at[c].e);
+    put('(');
+    for (uint32_t first = i; i != 0 && !w.fault; i = w.element(i).next) {
+        node me = w.element(i);
+        if (i != first) put(',');
+        if (me.is_list) put_list(me.first, level + 1);
+        else put_atom(me.atom);
     }
-    put(w, ')');
+    put(')');
 }
+
+static void put_text(uint32_t first) {
+    put_list(first, 1);
+    while (!w.fault && w.bytes % 72 != 0) put(' ');
+}
+
+/* A number fits whole or is a fault. */
+static void put_number(uint64_t number) {
+    uint8_t group[5];
+    size_t groups = 0;
+    do {
+        group[groups++] = (uint8_t)(number % 128 + (number >= 128 ? 128 : 0));
+        number /= 128;
+    } while (number > 0);
+    if (w.bytes + groups > w.usable) {
+        w.fault = 18;
+        return;
+    }
+    memcpy(w.byte + w.bytes, group, groups);
+    w.bytes += groups;
+}
+
+static void put_groups(uint32_t first, int level) {
+    uint64_t elements = 0;
+    if (level > 200) {
+        w.fault = 17;
+        return;
+    }
+    for (uint32_t i = first; i != 0; i = w.element(i).next) elements++;
+    put_number(2 * elements + 1);
+    for (uint32_t i = first; i != 0 && !w.fault; i = w.element(i).next) {
+        node me = w.element(i);
+        if (me.is_list) put_groups(me.first, level + 1);
+        else put_number(2 * (uint64_t)me.atom);
+    }
+}
+
+static void put_all_groups(uint32_t first) { put_groups(first, 1); }
 
 /* ---- The calls */
 
@@ -488,20 +622,27 @@ tab_outcome ref_run(uint32_t *table, size_t table_words, uint32_t *work, size_t 
     return outcome(answer, done);
 }
 
-tab_outcome ref_read(uint32_t *table, size_t table_words, uint32_t *work, size_t work_words, uint32_t holder,
-                     const uint8_t *text, size_t bytes) {
-    int first;
-    uint32_t taken;
+/* Text or groups: how a stored form is looked at first, and then read. */
+typedef struct {
+    uint32_t (*early)(const uint8_t *, size_t);
+    uint32_t (*parse)(const uint8_t *, size_t, uint32_t *, uint32_t *);
+} form;
+
+static const form as_text = {early_fault, parse}, as_groups = {early_groups_fault, parse_groups};
+
+static tab_outcome read_as(form f, uint32_t *table, size_t table_words, uint32_t *work, size_t work_words, uint32_t holder,
+                           const uint8_t *in, size_t bytes) {
+    uint32_t first, taken;
     if (!table_fits(table, table_words)) return outcome(1, 0);
     if (work_words < 2 * (size_t)table[0]) return outcome(2, 0);
     if (holder > 63) return outcome(7, 0);
-    uint32_t fault = early_fault(text, bytes);
+    uint32_t fault = f.early(in, bytes);
     if (fault) return outcome(fault, 0);
     unpack(table);
     clear_work(work);
     if (!is_sound()) return outcome(5, 0);
     if (p.holder[holder] != 0) return outcome(10, 0);
-    fault = parse(text, bytes, &first, &taken);
+    fault = f.parse(in, bytes, &first, &taken);
     if (fault) return outcome(fault, 0);
     if (extent(first) > free_cells()) return outcome(12, 0);
     p.holder[holder] = build(first);
@@ -509,28 +650,72 @@ tab_outcome ref_read(uint32_t *table, size_t table_words, uint32_t *work, size_t
     return outcome(0, taken);
 }
 
-tab_outcome ref_write(const uint32_t *table, size_t table_words, uint32_t *work, size_t work_words, uint32_t holder,
-                      uint8_t *out, size_t room) {
-    static writer w;
-    if (!table_fits(table, table_words)) return outcome(1, 0);
-    if (work_words < 2 * (size_t)table[0]) return outcome(2, 0);
-    if (holder > 63) return outcome(7, 0);
+tab_outcome ref_read(uint32_t *table, size_t table_words, uint32_t *work, size_t work_words, uint32_t holder,
+                     const uint8_t *text, size_t bytes) {
+    return read_as(as_text, table, table_words, work, work_words, holder, text, bytes);
+}
+
+tab_outcome ref_read_groups(uint32_t *table, size_t words, uint32_t *work, size_t work_words, uint32_t holder,
+                            const uint8_t *groups, size_t bytes) {
+    return read_as(as_groups, table, words, work, work_words, holder, groups, bytes);
+}
+
+/* What refuses a write before its list is looked at; otherwise the pool is unpacked. */
+static uint32_t open_to_write(const uint32_t *table, size_t table_words, uint32_t *work, size_t work_words, uint32_t holder) {
+    if (!table_fits(table, table_words)) return 1;
+    if (work_words < 2 * (size_t)table[0]) return 2;
+    if (holder > 63) return 7;
     unpack(table);
     clear_work(work);
-    if (!is_sound()) return outcome(5, 0);
-    w.bytes = 0;
-    w.usable = (room < 65520 ? room : 65520) / 72 * 72;
-    w.fault = 0;
-    put_list(&w, p.holder[holder], 1);
+    return is_sound() ? 0 : 5;
+}
+
+/* Hands out what was put together, if nothing was at fault. */
+static tab_outcome hand_out(uint8_t *out) {
     if (w.fault) return outcome(w.fault, 0);
-    while (w.bytes % 72 != 0) put(&w, ' ');
     memcpy(out, w.byte, w.bytes);
     return outcome(0, (uint32_t)w.bytes);
 }
 
+tab_outcome ref_write(const uint32_t *table, size_t table_words, uint32_t *work, size_t work_words, uint32_t holder,
+                      uint8_t *out, size_t room) {
+    uint32_t fault = open_to_write(table, table_words, work, work_words, holder);
+    if (fault) return outcome(fault, 0);
+    start_writing(from_cell, usable_for_text(room));
+    put_text(p.holder[holder]);
+    return hand_out(out);
+}
+
+tab_outcome ref_write_groups(const uint32_t *table, size_t words, uint32_t *work, size_t work_words, uint32_t holder,
+                             uint8_t *out, size_t room) {
+    uint32_t fault = open_to_write(table, words, work, work_words, holder);
+    if (fault) return outcome(fault, 0);
+    start_writing(from_cell, usable_for_groups(room));
+    put_all_groups(p.holder[holder]);
+    return hand_out(out);
+}
+
+/* Reads the list in one form into the tree; `put_down` then puts it down in the other. */
+static tab_moved move_from(form f, const uint8_t *in, size_t bytes, void (*put_down)(uint32_t), size_t usable, uint8_t *out) {
+    uint32_t first, taken, fault = f.early(in, bytes);
+    if (!fault) fault = f.parse(in, bytes, &first, &taken);
+    if (fault) return (tab_moved){fault, 0, 0};
+    start_writing(from_tree, usable);
+    put_down(first);
+    tab_outcome o = hand_out(out);
+    return (tab_moved){o.answer, o.answer ? 0 : taken, o.count};
+}
+
+tab_moved ref_text_to_groups(const uint8_t *text, size_t bytes, uint8_t *out, size_t room) {
+    return move_from(as_text, text, bytes, put_all_groups, usable_for_groups(room), out);
+}
+
+tab_moved ref_groups_to_text(const uint8_t *groups, size_t bytes, uint8_t *out, size_t room) {
+    return move_from(as_groups, groups, bytes, put_text, usable_for_text(room), out);
+}
+
 tab_outcome ref_check(const uint8_t *text, size_t bytes) {
-    int first;
-    uint32_t taken;
+    uint32_t first, taken;
     uint32_t fault = early_fault(text, bytes);
     if (fault == 0) fault = parse(text, bytes, &first, &taken);
     if (fault) return outcome(fault, 0);

@@ -1,4 +1,4 @@
-/* The six calls once more, in plain C and from the rules alone: reference.c has them. */
+/* The ten calls once more, in plain C and from the rules alone: reference.c has them. */
 #ifndef REFERENCE_H
 #define REFERENCE_H
 
@@ -13,6 +13,16 @@ tab_outcome ref_write(const uint32_t *table, size_t table_words, uint32_t *work,
                       uint8_t *out, size_t room);
 tab_outcome ref_check(const uint8_t *text, size_t bytes);
 size_t ref_rest(const uint8_t *text, size_t bytes);
+tab_outcome ref_read_groups(uint32_t *table, size_t words, uint32_t *work, size_t work_words, uint32_t holder,
+                            const uint8_t *groups, size_t bytes);
+tab_outcome ref_write_groups(const uint32_t *table, size_t words, uint32_t *work, size_t work_words, uint32_t holder,
+                             uint8_t *out, size_t room);
+tab_moved ref_text_to_groups(const uint8_t *text, size_t bytes, uint8_t *out, size_t room);
+tab_moved ref_groups_to_text(const uint8_t *groups, size_t bytes, uint8_t *out, size_t room);
+
+/* Why the last answer 19 was given; of use behind such an answer alone. */
+enum groups_fault { RUNS_OUT, TOO_MANY_GROUPS, TOO_LARGE, ATOM_AT_TOP, GROUPS_FAULTS };
+extern enum groups_fault ref_groups_fault;
 
 /* For making scripts: takes a sound table, then one operation after the other; gives the answer, 0 if it was done. */
 void ref_open(const uint32_t *table);

@@ -1,7 +1,8 @@
 /*
  * Is the reference right? Three ways to tell, none of which looks at its code: the cases that the rules themselves
  * name; operations held to what they mean for the lists, which are written out as text and cut and joined there; and
- * soundness held to a second definition, counted pair by pair with a full table of who reaches whom.
+ * soundness held to a second definition, counted pair by pair with a full table of who reaches whom. Groups have their
+ * own file, groupcases.c.
  *
  * Built with -DLIBRARY it asks the same of the library: every ref_ below is then the library's call.
  */
@@ -9,43 +10,42 @@
 #include <string.h>
 
 #include "random.h"
-#include "reference.h"
+#include "selftest.h"
 #include "tables.h"
-
-#ifdef LIBRARY
-#define SUBJECT "library"
-#define ref_set_up tab_set_up
-#define ref_run tab_run
-#define ref_read tab_read
-#define ref_write tab_write
-#define ref_check tab_check
-#define ref_rest tab_rest
-#else
-#define SUBJECT "reference"
-#endif
 
 enum { MOST_SHOWN = 20 };
 static int checks, wrong;
 
-static void is(const char *what, long got, long should) {
+void is(const char *what, long got, long should) {
     checks++;
     if (got == should) return;
     if (wrong++ < MOST_SHOWN) printf("selftest: " SUBJECT ": %s: %ld, should be %ld\n", what, got, should);
 }
 
-static void is_text(const char *what, const char *got, const char *should) {
+void is_text(const char *what, const char *got, const char *should) {
     checks++;
     if (strcmp(got, should) == 0) return;
     if (wrong++ < MOST_SHOWN) printf("selftest: " SUBJECT ": %s: %.100s, should be %.100s\n", what, got, should);
 }
 
+void are_bytes(const char *what, const uint8_t *got, size_t got_bytes, const uint8_t *should, size_t bytes) {
+    checks++;
+    if (got_bytes == bytes && memcmp(got, should, bytes) == 0) return;
+    if (wrong++ >= MOST_SHOWN) return;
+    printf("selftest: " SUBJECT ": %s: %u bytes,", what, (unsigned)got_bytes);
+    for (size_t i = 0; i < got_bytes && i < 12; i++) printf(" %u", got[i]);
+    printf(", should be %u bytes,", (unsigned)bytes);
+    for (size_t i = 0; i < bytes && i < 12; i++) printf(" %u", should[i]);
+    printf("\n");
+}
+
 /* ---- A pool to play with */
 
-static uint32_t t[16066], work[8000];
+uint32_t t[16066], work[8000];
 
-static size_t length(void) { return 66 + 4 * (size_t)t[0]; }
+size_t length(void) { return 66 + 4 * (size_t)t[0]; }
 
-static void set_up(uint32_t n) {
+void set_up(uint32_t n) {
     t[0] = n;
     is("set up", ref_set_up(t, length(), n), 0);
 }
@@ -53,7 +53,7 @@ static void set_up(uint32_t n) {
 /* One operation; gives the answer, and the result's words in kind and value (3 and 0 if refused). */
 static uint32_t kind, value;
 
-static uint32_t operate(uint32_t code, uint32_t a, uint32_t b, uint32_t v) {
+uint32_t operate(uint32_t code, uint32_t a, uint32_t b, uint32_t v) {
     uint32_t words[4] = {code, a, b, v}, result[2] = {3, 0};
     tab_outcome o = ref_run(t, length(), work, 8000, words, 4, result, 2);
     kind = result[0];
@@ -62,23 +62,23 @@ static uint32_t operate(uint32_t code, uint32_t a, uint32_t b, uint32_t v) {
     return o.answer;
 }
 
-static uint32_t free_now(void) {
+uint32_t free_now(void) {
     uint32_t k = 0;
     for (uint32_t c = FREE(t); c != 0; c = SUCCESSOR(t, c)) k++;
     return k;
 }
 
-static uint8_t records[65592];
+uint8_t records[65592];
 
 /* Fills a text up to its record. */
-static size_t record(const char *text) {
+size_t record(const char *text) {
     size_t bytes = strlen(text);
     memcpy(records, text, bytes);
     while (bytes % 72 != 0) records[bytes++] = ' ';
     return bytes;
 }
 
-static uint32_t reads(const char *text, uint32_t holder) {
+uint32_t reads(const char *text, uint32_t holder) {
     size_t bytes = record(text);
     return ref_read(t, length(), work, 8000, holder, records, bytes).answer;
 }
@@ -86,7 +86,7 @@ static uint32_t reads(const char *text, uint32_t holder) {
 static uint32_t checked(const char *text) { return ref_check(records, record(text)).answer; }
 
 /* A holder's text without the fill; a message if it is refused. */
-static const char *written(uint32_t holder) {
+const char *written(uint32_t holder) {
     static char out[65521];
     tab_outcome o = ref_write(t, length(), work, 8000, holder, (uint8_t *)out, 65520);
     if (o.answer != 0) return "refused";
@@ -134,8 +134,7 @@ static void measures(const char *text, uint32_t len, uint32_t order, uint32_t ex
     is(text, 20 - free_now(), extent);
 }
 
-/* A list of so many levels: brackets alone. */
-static const char *brackets(int levels) {
+const char *brackets(int levels) {
     static char text[500];
     memset(text, '(', (size_t)levels);
     memset(text + levels, ')', (size_t)levels);
@@ -401,8 +400,7 @@ static void write_all(char texts[8][9000]) {
     for (uint32_t h = 0; h < 8; h++) copy(texts[h], written(h));
 }
 
-/* Where the first element of the text at s ends. */
-static size_t element_end(const char *s) {
+size_t element_end(const char *s) {
     size_t i = 0;
     for (int level = 0; s[i] && !(level == 0 && (s[i] == ',' || s[i] == ')')); i++) {
         if (s[i] == '(') level++;
@@ -460,7 +458,7 @@ static void joined_text(char *to, const char *a, const char *b) {
     copy(to, made);
 }
 
-static uint32_t octal(const char *s) {
+uint32_t octal(const char *s) {
     uint32_t v = 0;
     for (; *s >= '0' && *s <= '7'; s++) v = v * 8 + (uint32_t)(*s - '0');
     return v;
@@ -660,9 +658,9 @@ static void the_header(void) {
     t[TAB_SUCCESSOR_AT(5)] = 8;
     is("free cells up to a number out of range", tab_free_cells(t, length()), 2);
     is_text("the first answer", tab_answer_name(TAB_DONE), "DONE");
-    is_text("the last answer", tab_answer_name(TAB_OUTPUT), "OUTPUT");
+    is_text("the last answer", tab_answer_name(TAB_GROUPS), "GROUPS");
     is_text("an answer between", tab_answer_name(TAB_NO_ROOM), "NO ROOM");
-    is_text("no answer", tab_answer_name(TAB_OUTPUT + 1), "unknown");
+    is_text("no answer", tab_answer_name(TAB_GROUPS + 1), "unknown");
 }
 
 int main(void) {
@@ -677,6 +675,7 @@ int main(void) {
     traps();
     meaning();
     soundness();
+    groups_cases();
     printf("selftest: %d checks of the " SUBJECT ", %d wrong\n", checks, wrong);
     return wrong > 0;
 }

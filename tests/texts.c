@@ -163,6 +163,12 @@ static size_t some_place(size_t from, size_t end) {
     }
 }
 
+/* The place is drawn before the byte: in one expression C would leave the order open. */
+static void put_no_blank(text *x, size_t from, size_t end) {
+    size_t at = some_place(from, end);
+    x->byte[at] = no_blank();
+}
+
 static void fill_record(void) {
     while (to->bytes % 72 != 0) put(' ');
 }
@@ -186,8 +192,8 @@ void make_padded(text *x, uint32_t records, enum padded kind) {
         memset(x->byte + list, ' ', end - list);
         x->bytes = end;
     }
-    if (kind == BUT_ONE) x->byte[some_place(0, end)] = no_blank();
-    if (kind == LIST_AND_MORE && end > list) x->byte[some_place(list, end)] = no_blank();
+    if (kind == BUT_ONE) put_no_blank(x, 0, end);
+    if (kind == LIST_AND_MORE && end > list) put_no_blank(x, list, end);
     if (kind == LIST_LAST) {
         put_list(below(12), 30);
         fill_record();
