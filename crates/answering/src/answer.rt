@@ -15,7 +15,7 @@ use lines::printed::{put_question, put_reply};
 use records::Record;
 
 // The number of words in use, and of bytes printed.
-#[derive(Drop)]
+#[derive(Clone, Copy)]
 pub struct Answered {
     pub used: usize,
     pub count: usize,

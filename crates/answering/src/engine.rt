@@ -13,7 +13,7 @@ use groups::Stored;
 use table::Shape;
 
 // The number of words in use, and answer, kind and value.
-#[derive(Drop)]
+#[derive(Clone, Copy)]
 pub struct Said {
     pub used: usize,
     pub answer: u32,

@@ -35,7 +35,7 @@ pub fn without_fill(text: &[u8], n: usize) -> usize
 }
 
 // The answer of WRITE, and the bytes of its text with a line feed; none where it is refused.
-#[derive(Drop)]
+#[derive(Clone, Copy)]
 pub struct Texted {
     pub answer: u32,
     pub count: usize,

@@ -1,9 +1,12 @@
 // The numbers that the calls go by: answers, codes of operations, kinds of results, and the answer of a call with the
 // number beside it.
+
+#![tactic(auto)]
+
 ghost use Rattle.std.specs.Prelude.{◌≡◌};
 ghost use Rattle.answers.specs.Answers.{DONE, refused, done, outcome, moved, not_moved};
 
-#[derive(Drop)]
+#[derive(Clone, Copy)]
 pub struct Answer(pub u32);
 
 impl Answer {
@@ -49,7 +52,7 @@ impl Answer {
 }
 
 // The codes of the operations.
-#[derive(Drop)]
+#[derive(Clone, Copy)]
 pub struct Code(pub u32);
 
 impl Code {
@@ -79,7 +82,7 @@ impl Code {
 }
 
 // The kinds of results.
-#[derive(Drop)]
+#[derive(Clone, Copy)]
 pub struct Kind(pub u32);
 
 impl Kind {
@@ -94,7 +97,7 @@ impl Kind {
 
 // An answer, and operations done, bytes taken or bytes written.
 #[repr(C)]
-#[derive(Drop)]
+#[derive(Clone, Copy)]
 pub struct Outcome {
     pub answer: u32,
     pub count: u32,
@@ -126,7 +129,7 @@ impl Outcome {
 
 // An answer, the bytes taken of one stored form and the bytes written of the other.
 #[repr(C)]
-#[derive(Drop)]
+#[derive(Clone, Copy)]
 pub struct Moved {
     pub answer: u32,
     pub taken: u32,

@@ -7,7 +7,7 @@ ghost use Rattle.building.specs.Reading.{hang};
 use table::Shape;
 
 // Cell 0 stands for the holder. Else `inside` 0 is the successor of the cell, and 1 its element.
-#[derive(Drop)]
+#[derive(Clone, Copy)]
 pub struct Hook {
     pub cell: usize,
     pub inside: usize,

@@ -1,6 +1,9 @@
 // Cells from the marks of a stored form, whatever form it is: a list begins, an atom, a list ends. Every element gets
 // its cell where it begins, from the head of the free chain; what the cell does not know yet is null, and is stored
 // when the next mark tells it.
+
+#![tactic(auto)]
+
 ghost use Rattle.std.specs.Prelude.{◌≡◌, [], ◌∷◌, ◌<◌};
 ghost use Rattle.table.specs.View.{holder_count, view, Table};
 ghost use Rattle.text.specs.Marks.{opened, shut, value};

@@ -1,4 +1,7 @@
 // The small steps that operations are made of: a list element, one more arrow, a new cell, a cell freed.
+
+#![tactic(auto)]
+
 ghost use Rattle.std.specs.Prelude.{◌≡◌, ◌≢◌, ◌≤◌, ◌<◌};
 ghost use Rattle.pool.specs.Pool.{count_of};
 ghost use Rattle.pool.specs.Operations.{borrowed, item};

@@ -1,5 +1,8 @@
 // The session: lines in, answers out. Each answer is written at once, so nothing is held back while it waits for input.
 // `step` and `finish` do the work, on slices alone; `serve` and `run` read, write and go on.
+
+#![tactic(auto)]
+
 ghost use Rattle.std.specs.Prelude.{◌≡◌, ◌≤◌, length};
 ghost use Rattle.answering.specs.Kept.{Prints};
 ghost use Rattle.console.specs.Serving.{closing};
@@ -15,7 +18,7 @@ use table::{Cell, Shape};
 
 // The place in the chunk; of the line, its bytes so far and whether there were too many; the words of the table in use;
 // and the bytes to be written.
-#[derive(Drop)]
+#[derive(Clone, Copy)]
 pub struct State {
     pub at: usize,
     pub len: usize,

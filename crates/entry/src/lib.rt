@@ -1,4 +1,7 @@
 // The entry of a call on a table: TABLE SIZE and WORK SPACE, and the shape of a table that passes them.
+
+#![tactic(auto)]
+
 ghost use Rattle.std.specs.Prelude.{◌≡◌, ◌≤◌};
 ghost use Rattle.answers.specs.Answers.{unless};
 ghost use Rattle.calls.specs.Entry.{entry_fault};
@@ -8,14 +11,14 @@ ghost use Rattle.table.specs.Sizes.{shape_of};
 use answers::Answer;
 use table::{Form, Shape};
 
-#[derive(Drop)]
+#[derive(Clone, Copy)]
 pub enum Entry {
     Open(Shape),
     Refused(u32),
 }
 
 // Work space: the words for each cell that a script run, reading and writing need, and the most that any call does.
-#[derive(Drop)]
+#[derive(Clone, Copy)]
 pub struct Work(pub usize);
 
 impl Work {

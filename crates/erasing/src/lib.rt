@@ -1,4 +1,7 @@
 // What drops an arrow: erasing by the report's steps, and ADV, whose arrow goes straight on to the tail.
+
+#![tactic(auto)]
+
 ghost use Rattle.std.specs.Prelude.{◌≡◌, ◌≢◌, ◌≤◌, ◌<◌};
 ghost use Rattle.pool.specs.Erase.{dropped, stepped};
 ghost use Rattle.pool.specs.Operations.{adv, erase};
@@ -9,7 +12,7 @@ ghost use Rattle.erasing.specs.Erasing.{Fine, state, Does, ErasingEnds, AtAnEnd,
 use table::Shape;
 
 // Where erasing stands: the cell whose arrow is to be dropped, or 0; the head of the waiting chain; the cells freed.
-#[derive(Drop)]
+#[derive(Clone, Copy)]
 struct Erasing {
     pub here: usize,
     pub waiting: usize,

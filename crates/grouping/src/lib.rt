@@ -1,4 +1,7 @@
 // Writing the list of a cell as groups: refused before a byte is written, or written whole.
+
+#![tactic(auto)]
+
 ghost use Rattle.std.specs.Prelude.{◌≡◌, List, ℕ};
 ghost use Rattle.calls.specs.Promised.{Writes};
 ghost use Rattle.calls.specs.Write.{write_list};

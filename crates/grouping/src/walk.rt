@@ -14,7 +14,7 @@ use table::Shape;
 use walks::Kept;
 
 // Where the next number comes from: a cell, or 0 where the innermost list ends. So many bytes are passed.
-#[derive(Drop)]
+#[derive(Clone, Copy)]
 pub struct Walk {
     pub at: usize,
     pub depth: usize,
@@ -35,7 +35,7 @@ impl Walk {
 }
 
 // What measuring says: DONE with the bytes of a list and its elements, or DEEP or OUTPUT.
-#[derive(Drop)]
+#[derive(Clone, Copy)]
 pub struct Measured {
     pub answer: u32,
     pub size: usize,

@@ -1,5 +1,8 @@
 // The two forms in which a list is stored: records of text, and groups.
-#[derive(Drop)]
+
+#![tactic(auto)]
+
+#[derive(Clone, Copy)]
 pub enum Stored {
     Text,
     Groups,

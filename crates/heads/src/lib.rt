@@ -1,4 +1,7 @@
 // What happens at the head of a list, in constant time: an element put before it, taken off, told; the list borrowed.
+
+#![tactic(auto)]
+
 ghost use Rattle.std.specs.Prelude.{◌≡◌, ◌≢◌, ◌<◌};
 ghost use Rattle.pool.specs.Pool.{count_of, holder, Sound};
 ghost use Rattle.pool.specs.Operations.{pfa, pfl, decap, borrow};
@@ -66,7 +69,7 @@ pub fn borrow(s: Shape, t: &mut [u32], a: usize, b: usize)
 }
 
 // The first element as two result words: 0 and an atom, or 1 and 0 for a list.
-#[derive(Drop)]
+#[derive(Clone, Copy)]
 pub struct Told {
     pub kind: u32,
     pub value: u32,

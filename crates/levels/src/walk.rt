@@ -9,7 +9,7 @@ ghost use Rattle.table.specs.View.{holder_count, view, Table};
 use table::Shape;
 
 // The end of a main level: whether a cell on it is shared, and if none is, its last cell.
-#[derive(Drop)]
+#[derive(Clone, Copy)]
 pub struct End {
     pub shared: bool,
     pub last: usize,

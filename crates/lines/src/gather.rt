@@ -3,7 +3,7 @@ ghost use Rattle.std.specs.Prelude.{◌≡◌, false, ◌+◌, ◌^◌, ◌≤�
 ghost use Rattle.lines.specs.Splitting.{line_most, eat};
 ghost use Rattle.lines.specs.Meaning.{stands, Gathers};
 
-#[derive(Drop)]
+#[derive(Clone, Copy)]
 pub struct Line(pub usize);
 
 impl Line {
@@ -12,7 +12,7 @@ impl Line {
 
 // The place in the chunk, the bytes of the line so far, whether there were more than it can have, and whether it is
 // whole.
-#[derive(Drop)]
+#[derive(Clone, Copy)]
 pub struct Gathered {
     pub at: usize,
     pub len: usize,

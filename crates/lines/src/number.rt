@@ -4,13 +4,13 @@ ghost use Rattle.lines.specs.Numbers.{is_digit_byte, number_in, parted, ended};
 ghost use Rattle.lines.specs.Meaning.{found, within};
 
 // A number and the place behind it.
-#[derive(Drop)]
+#[derive(Clone, Copy)]
 pub enum Found {
     Number(u32, usize),
     Nothing,
 }
 
-#[derive(Drop)]
+#[derive(Clone, Copy)]
 pub struct Digits(pub usize);
 
 impl Digits {

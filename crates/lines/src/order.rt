@@ -9,7 +9,7 @@ use crate::number::{Found, last_number, number_and_blank};
 use answers::Code;
 
 // READ's text starts at a place of the line.
-#[derive(Drop)]
+#[derive(Clone, Copy)]
 pub enum Order {
     Malformed,
     New(u32),
@@ -19,7 +19,7 @@ pub enum Order {
 }
 
 // An operation that is named, with the length of its name and blank; code 0 where none is.
-#[derive(Drop)]
+#[derive(Clone, Copy)]
 pub struct Name {
     pub code: u32,
     pub long: usize,

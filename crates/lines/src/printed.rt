@@ -6,7 +6,7 @@ ghost use Rattle.lines.specs.Meaning.{Puts};
 
 use crate::number::Digits;
 
-#[derive(Drop)]
+#[derive(Clone, Copy)]
 pub struct Reply(pub usize);
 
 impl Reply {

@@ -1,11 +1,14 @@
 // One number in groups of seven bits: read where it begins, measured, and put in its place.
+
+#![tactic(auto)]
+
 ghost use Rattle.std.specs.Prelude.{◌≡◌, ◌+◌, ◌≤◌, ◌<◌, length, get_or};
 ghost use Rattle.std.proofs.Math.Seq.{paste};
 ghost use Rattle.groups.specs.Groups.{numbers_end, number};
 ghost use Rattle.numbers.specs.Numbers.{none, number_in, ended};
 
 // The number, and the place behind it: 0 where no well-formed number begins.
-#[derive(Drop)]
+#[derive(Clone, Copy)]
 pub struct Number {
     pub value: u64,
     pub end: usize,

@@ -1,5 +1,8 @@
 // An atom in octal: how many digits it has, and each digit straight in its place. No byte is stored twice, and none
 // behind the last digit.
+
+#![tactic(auto)]
+
 ghost use Rattle.std.specs.Prelude.{◌≡◌, ◌+◌, ◌≤◌, ◌<◌, ◌^◌, length};
 ghost use Rattle.stores.specs.Pasted.{pasted};
 ghost use Rattle.text.specs.Limits.{digits_most};

@@ -1,4 +1,7 @@
 // One operation: its tests in the order of the answers 6 to 12, before anything is changed, and then its effect.
+
+#![tactic(auto)]
+
 ghost use Rattle.std.specs.Prelude.{◌≡◌, ◌&&◌, ℕ, leb};
 ghost use Rattle.ops.specs.Replies.{operation, Gives};
 ghost use Rattle.ops.specs.Tests.{early};
@@ -16,7 +19,7 @@ use answers::{Answer, Code};
 use table::Shape;
 
 // What an operation answers: two result words, kind and value, or the number of its refusal.
-#[derive(Drop)]
+#[derive(Clone, Copy)]
 pub enum Reply {
     Done(u32, u32),
     Refused(u32),

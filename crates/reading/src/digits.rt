@@ -4,7 +4,7 @@ ghost use Rattle.reading.specs.Numbers.{number_at, Numbered};
 
 use scan::octals;
 
-#[derive(Drop)]
+#[derive(Clone, Copy)]
 pub struct Number {
     pub value: u32,
     pub end: usize,

@@ -1,4 +1,7 @@
 // Reading a stored list into a holder: the tests in their order, and a change only when all are passed.
+
+#![tactic(auto)]
+
 ghost use Rattle.std.specs.Prelude.{◌≡◌, List, ℕ, ◌<◌, length};
 ghost use Rattle.answers.specs.Answers.{DONE};
 ghost use Rattle.calls.specs.Entry.{work_words, Provided, used};

@@ -1,4 +1,7 @@
 // The records of a text before it is read as a list: whole ones, not too many, and not blanks alone.
+
+#![tactic(auto)]
+
 ghost use Rattle.std.specs.Prelude.{◌≡◌, ◌+◌, ◌%◌, ◌≤◌, length, drop};
 ghost use Rattle.text.specs.Limits.{record_bytes, records_most, text_most};
 ghost use Rattle.text.specs.Text.{at_end, size_fault};
@@ -7,7 +10,7 @@ ghost use Rattle.records.specs.Differing.{Differing};
 use answers::Answer;
 
 // Constants, each tied to the number of the definitions.
-#[derive(Drop)]
+#[derive(Clone, Copy)]
 pub struct Record(pub usize);
 
 impl Record {

@@ -1,4 +1,7 @@
 // The text check: is what the caller lends a list in the text form, and where does its last record end?
+
+#![tactic(auto)]
+
 ghost use Rattle.std.specs.Prelude.{◌≡◌, ◌+◌, ◌≤◌, length, drop};
 ghost use Rattle.text.specs.Text.{verdict, rest_at};
 ghost use Rattle.scan.specs.Outcomes.{scanned_as, answered_as, refused_scan, done_scan, told, Sized};
@@ -13,7 +16,7 @@ pub mod octals;
 pub mod step;
 
 // What a scan says: the answer, the bytes taken, and the extent of the list.
-#[derive(Drop)]
+#[derive(Clone, Copy)]
 pub struct Scanned {
     pub answer: u32,
     pub taken: u32,

@@ -2,7 +2,7 @@
 ghost use Rattle.std.specs.Prelude.{◌≡◌};
 ghost use Rattle.text.specs.Limits.{levels, digits_most};
 
-#[derive(Drop)]
+#[derive(Clone, Copy)]
 pub struct Level(pub u32);
 
 impl Level {
@@ -15,7 +15,7 @@ impl Level {
     }
 }
 
-#[derive(Drop)]
+#[derive(Clone, Copy)]
 pub struct Digits(pub usize);
 
 impl Digits {

@@ -11,7 +11,7 @@ use answers::Answer;
 
 // Bytes behind, levels open, elements begun; `first`: behind a "(", where a ")" may stand too. No level is open behind
 // the whole list.
-#[derive(Drop)]
+#[derive(Clone, Copy)]
 pub struct Place {
     pub at: usize,
     pub depth: u32,
@@ -19,7 +19,7 @@ pub struct Place {
     pub first: bool,
 }
 
-#[derive(Drop)]
+#[derive(Clone, Copy)]
 pub enum Step {
     Mark(Place),
     Fault(u32),

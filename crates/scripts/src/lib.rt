@@ -1,5 +1,8 @@
 // A run of operations: the tests 1 to 5 once and in this order, then operation by operation up to the first that is
 // refused.
+
+#![tactic(auto)]
+
 ghost use Rattle.std.specs.Prelude.{◌≡◌, ◌+◌, ◌*◌, ◌≤◌, length};
 ghost use Rattle.answers.specs.Codes.{operation_words, result_words, script_most};
 ghost use Rattle.calls.specs.Entry.{work_words, Provided};
@@ -19,7 +22,7 @@ use ops::Reply;
 use table::{Form, Shape};
 
 // A script: for each operation its code, a, b and v.
-#[derive(Drop)]
+#[derive(Clone, Copy)]
 pub struct Script(pub usize);
 
 impl Script {
@@ -36,7 +39,7 @@ impl Script {
 }
 
 // The results: for each operation kind and value.
-#[derive(Drop)]
+#[derive(Clone, Copy)]
 pub struct Results(pub usize);
 
 impl Results {

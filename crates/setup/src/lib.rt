@@ -1,4 +1,7 @@
 // The call that sets up a pool: every cell free, each followed by the next.
+
+#![tactic(auto)]
+
 ghost use Rattle.std.specs.Prelude.{◌≡◌};
 ghost use Rattle.pool.specs.Operations.{laid};
 ghost use Rattle.pool.specs.Setters.{celled};

@@ -1,5 +1,8 @@
 // Whether a table is sound. Every arrow met takes one off the count of its end; the arrows of a cell are met when its
 // count has run out. Work space: words 0 to N - 1 are the counts that are left, words N to 2 N - 1 the cells that wait.
+
+#![tactic(auto)]
+
 ghost use Rattle.std.specs.Prelude.{◌≡◌, ◌&&◌, suc, ◌+◌, ◌*◌, ◌≤◌, length};
 ghost use Rattle.pool.specs.Tally.{same};
 ghost use Rattle.pool.specs.Check.{chained, after_holders};
@@ -12,7 +15,7 @@ use table::Shape;
 
 // What the work space does not say: whether all went well (1, else 0), the cell at hand (0: none), how many wait, and
 // how many are done. All are words of one size, so that no gaps are copied.
-#[derive(Drop)]
+#[derive(Clone, Copy)]
 struct Peel {
     ok: usize,
     at: usize,
@@ -21,7 +24,7 @@ struct Peel {
 }
 
 // What the check finds: whether the table is sound, and how many cells are free.
-#[derive(Drop)]
+#[derive(Clone, Copy)]
 pub struct Found {
     pub sound: bool,
     pub free: usize,

@@ -1,5 +1,8 @@
 // The second pass over groups that are a list and have room: the numbers go into cells. The readers of a list and of an
 // element call each other, at most 200 levels deep, since the check took them.
+
+#![tactic(auto)]
+
 ghost use Rattle.std.specs.Prelude.{ℕ, ◌≤◌, ◌<◌};
 ghost use Rattle.groups.specs.Holding.{Holding};
 ghost use Rattle.groups.specs.Reading.{list_in};
@@ -13,7 +16,7 @@ use building::hook::Hook;
 use table::{Form, Shape};
 
 // The place in the bytes, and where the next cell hangs.
-#[derive(Drop)]
+#[derive(Clone, Copy)]
 pub struct Spot {
     pub at: usize,
     pub hook: Hook,

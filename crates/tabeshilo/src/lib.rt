@@ -1,5 +1,8 @@
 // The C boundary: the calls that C links, each one line over the crate that does it, and each with the contract that it
 // is the engine of which the demands are proved: `ours` at the four-word form. The header is include/tabeshilo.h.
+
+#![tactic(auto)]
+
 ghost use Rattle.std.specs.Prelude.{◌≡◌};
 ghost use Rattle.calls.specs.Promised.{SetsUp, Runs, Reads, Writes, Moves};
 ghost use Rattle.groups.specs.declared.Stored.TheVariants.{Text, Groups};

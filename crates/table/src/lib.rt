@@ -1,4 +1,7 @@
 // The only code that knows where the words of a table lie. Every function above goes by the pool that the table shows.
+
+#![tactic(auto)]
+
 ghost use Rattle.std.specs.Prelude.{◌≡◌, true, false, ◌+◌, ◌*◌, ◌^◌, ◌≤◌, ◌<◌, length, set};
 ghost use Rattle.pool.specs.Pool.{at, kind_of, elem_of, count_of, next_of, holder};
 ghost use Rattle.table.specs.Fields.{field, put_field};
@@ -10,7 +13,7 @@ ghost use Rattle.table.specs.Blank.{headed, blank_pool};
 ghost use Rattle.table.specs.View.{four, word_count, holder_count, greatest_count, start, cell_word, stored_two, view};
 ghost use Rattle.table.specs.View.{Table, IsCell, Shows};
 
-#[derive(Drop)]
+#[derive(Clone, Copy)]
 pub struct Cell(pub usize);
 
 impl Cell {
@@ -23,7 +26,7 @@ impl Cell {
 }
 
 // A cell in two words: type, count and successor in the first, the element in the second.
-#[derive(Drop)]
+#[derive(Clone, Copy)]
 pub struct Pair(pub usize);
 
 impl Pair {
@@ -32,7 +35,7 @@ impl Pair {
     pub const WORDS: usize = 2;
 }
 
-#[derive(Drop)]
+#[derive(Clone, Copy)]
 pub struct Holder(pub usize);
 
 impl Holder {
@@ -46,7 +49,7 @@ impl Holder {
 
 // How a pool is laid out in words: four words a cell, two words a cell, and two words a cell with the number of holders
 // told. No call names Packed or Wide yet: they are for later requests.
-#[derive(Drop)]
+#[derive(Clone, Copy)]
 pub enum Form {
     Four,
     Packed,
@@ -116,7 +119,7 @@ impl Form {
 }
 
 // The layout of a table: what goes with its words everywhere.
-#[derive(Drop)]
+#[derive(Clone, Copy)]
 pub struct Shape {
     pub form: Form,
     pub cells: usize,

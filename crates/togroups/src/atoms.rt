@@ -5,7 +5,7 @@ ghost use Rattle.togroups.specs.Atoms.{Ends, Gathered, Before};
 
 use scan::octals;
 
-#[derive(Drop)]
+#[derive(Clone, Copy)]
 pub struct Atom {
     pub value: u64,
     pub from: usize,

@@ -1,5 +1,8 @@
 // The move from text to groups. The number of a list's elements stands before them, so the text is passed over from its
 // end: the groups come out with the last byte first, and are turned round.
+
+#![tactic(auto)]
+
 ghost use Rattle.std.specs.Prelude.{◌≡◌, leb, length};
 ghost use Rattle.calls.specs.Promised.{Moves};
 ghost use Rattle.calls.specs.Move.{put_out, moved_from};

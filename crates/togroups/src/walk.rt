@@ -12,7 +12,7 @@ use scan::limits::Level;
 use scan::octals;
 
 // With `comes`, the number that was met last.
-#[derive(Drop)]
+#[derive(Clone, Copy)]
 pub struct Walk {
     pub at: usize,
     pub depth: usize,

@@ -13,7 +13,7 @@ use writing::atoms;
 
 // Where the next number begins, the characters of those before it, the levels that are open and the elements still to
 // come in the innermost list; or a fault.
-#[derive(Drop)]
+#[derive(Clone, Copy)]
 pub struct Place {
     pub at: usize,
     pub size: usize,
@@ -23,7 +23,7 @@ pub struct Place {
 }
 
 // What the check says: DONE, the bytes taken and the characters of the text; or a fault.
-#[derive(Drop)]
+#[derive(Clone, Copy)]
 pub struct Checked {
     pub answer: u32,
     pub taken: u32,

@@ -1,4 +1,7 @@
 // A list moved from groups to text: refused before a byte is written, or written whole with its fill.
+
+#![tactic(auto)]
+
 ghost use Rattle.std.specs.Prelude.{◌≡◌, length};
 ghost use Rattle.calls.specs.Promised.{Moves};
 ghost use Rattle.calls.specs.Move.{moved_from, put_out};

@@ -15,7 +15,7 @@ use writing::atoms;
 
 // Where the next number begins and the next character goes, the levels that are open, and the elements still to come in
 // the innermost list.
-#[derive(Drop)]
+#[derive(Clone, Copy)]
 pub struct Walk {
     pub from: usize,
     pub to: usize,

@@ -1,4 +1,7 @@
 // The session on each stored transcript, one after another, with a line between.
+
+#![tactic(auto)]
+
 fn one(name: &[u8]) {
     let fd = os::open_read(name);
     if fd < 0 {

@@ -8,7 +8,7 @@ ghost use Rattle.ungrouping.specs.Ends.{Ends};
 use crate::bounds;
 
 // As many bytes as are counted at a time: a count of one byte holds them.
-#[derive(Drop)]
+#[derive(Clone, Copy)]
 pub struct Block(pub u64);
 
 impl Block {

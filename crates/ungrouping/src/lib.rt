@@ -1,4 +1,7 @@
 // The check of groups: is what the caller lends a list in groups, and where does it end?
+
+#![tactic(auto)]
+
 ghost use Rattle.std.specs.Prelude.{◌≡◌};
 ghost use Rattle.answers.specs.Answers.{DONE};
 ghost use Rattle.lists.specs.Lst.{extent};

@@ -10,7 +10,7 @@ use scan::limits::Level;
 
 // What a reader gives: the place behind what it read, or a fault above all places. One number is handed back in a
 // register, a struct is not.
-#[derive(Drop)]
+#[derive(Clone, Copy)]
 pub struct Place(pub usize);
 
 impl Place {

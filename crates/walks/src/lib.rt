@@ -1,5 +1,8 @@
 // What a walk through a list and its lists needs, whatever form it puts the list into: the cells with which the open
 // levels go on, and the test for level 201.
+
+#![tactic(auto)]
+
 ghost use Rattle.std.specs.Prelude.{◌≡◌, ◌&&◌, ◌≢◌, leb};
 ghost use Rattle.text.specs.Limits.{levels};
 ghost use Rattle.table.specs.View.{view, Table, IsCell};

@@ -12,14 +12,14 @@ use table::Shape;
 use walks::Kept;
 
 // What a walk asks of a cell; of number 0, all zeros.
-#[derive(Drop)]
+#[derive(Clone, Copy)]
 pub struct Seen {
     pub kind: u32,
     pub elem: u32,
     pub next: usize,
 }
 
-#[derive(Drop)]
+#[derive(Clone, Copy)]
 pub struct Hand {
     pub walk: Walk,
     pub cell: Seen,

@@ -1,4 +1,7 @@
 // Writing the list of a holder in a stored form: refused before a byte is written, or written whole.
+
+#![tactic(auto)]
+
 ghost use Rattle.std.specs.Prelude.{◌≡◌, List, ℕ, ◌-◌, ◌≤◌, length, replicate};
 ghost use Rattle.std.proofs.Math.Seq.{paste};
 ghost use Rattle.calls.specs.Write.{write_list, write_out, writing_in};

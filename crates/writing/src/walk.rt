@@ -16,7 +16,7 @@ use table::Shape;
 use walks::Kept;
 
 // Where the next character comes from: a cell, or ")" at 0.
-#[derive(Drop)]
+#[derive(Clone, Copy)]
 pub struct Walk {
     pub at: usize,
     pub depth: usize,
@@ -24,7 +24,7 @@ pub struct Walk {
 }
 
 // What measuring says: DONE and the size of the text, or DEEP or OUTPUT.
-#[derive(Drop)]
+#[derive(Clone, Copy)]
 pub struct Measured {
     pub answer: u32,
     pub size: usize,

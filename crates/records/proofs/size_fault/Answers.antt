@@ -1,0 +1,18 @@
+-- `size_fault` tests the size as the definition does.
+use mathlib.Core.Path.{sym, ◌∙◌}
+use Rattle.text.specs.Laws.SizeLaws.{not_whole, too_long, blank, no_fault}
+use Rattle.records.proofs.size_fault.Goals as goal
+
+pub returns-then-text-ne0 : goal.returns-then-text-ne0
+returns-then-text-ne0 c = sym (not_whole _ c.if-text-ne0.true)
+
+pub returns-then-text-gt-TEXT : goal.returns-then-text-gt-TEXT
+returns-then-text-gt-TEXT c = sym (too_long _ c.if-text-ne0.false c.if-text-gt-TEXT.true)
+
+pub returns-then-at_end : goal.returns-then-at_end
+returns-then-at_end c =
+    sym (blank _ c.if-text-ne0.false c.if-text-gt-TEXT.false (sym c.at_end.ensures ∙ c.if-at_end.true))
+
+pub returns : goal.returns
+returns c =
+    sym (no_fault _ c.if-text-ne0.false c.if-text-gt-TEXT.false (sym c.at_end.ensures ∙ c.if-at_end.false))

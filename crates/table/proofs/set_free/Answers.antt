@@ -1,0 +1,6 @@
+-- `table::set_free` meets its contract.
+use Rattle.table.specs.Laws.ViewLaws.{stored-free}
+use Rattle.table.proofs.set_free.Goals as goal
+
+pub returns : goal.returns
+returns c = stored-free _ _ c.requires.table _
