@@ -7,7 +7,6 @@ use native.Mathlib.Omega.{arith}
 use lib.ListN.{length, drop, get_or, drop_of_length-le}
 use lib.Dec.{eqb}
 use borrow.Author.Tests.{eq-eqb, ne_eqb, eqb-true}
-use denote.Enum.Declared.{tag_of}
 use Rattle.lists.specs.Lst.{extent}
 use Rattle.text.specs.Limits.{levels}
 use Rattle.text.specs.Text as text
@@ -23,7 +22,6 @@ use Rattle.scan.specs.declared.step.Place.{Place}
 use Rattle.scan.specs.declared.step.Step.{Step}
 use Rattle.scan.specs.declared.step.Step.TheVariants as step
 use Rattle.scan.specs.declared.step.Step.TheVariants.{Fault}
-use Rattle.scan.specs.contracts.step.Step.{the_type}
 use Rattle.scan.proofs.Outlooks.{turn, stops}
 use Rattle.scan.proofs.Turns.{standing}
 
@@ -91,9 +89,9 @@ goes_on_lem s p q a w n =
 pub faults : (s : List ℕ) (p : Place) (k : ℕ) → Stands s p → (outlook_at s p).answered ≡ refusal k → refused_scan k ≡ scanned_as s
 faults s p k a e = refused_says s k (ap (λ (o : Outlook). o.answered) a.same ∙ e)
 
--- what the else of a `let Step::Mark(..)` knows: the step's tag is the fault's
-pub fault_known : (t : Step) → tag_of the_type t ≡ 1 → t ≡ Fault (fault_of t)
-fault_known (step.Mark q) e = let z : ◌≡◌ {A = ℕ} 0 1 = e in absurd (omega arith)
+-- what the else of a `let Step::Mark(..)` knows: the step is no mark
+pub fault_known : (t : Step) → ((q : Place) → t ≡ step.Mark q → ⊥) → t ≡ Fault (fault_of t)
+fault_known (step.Mark q) e = absurd (e q refl)
 fault_known (Fault k) e = refl
 
 pub runs_out : (s : List ℕ) (p : Place) → Stands s p → length s ≤ p.at → refused_scan 15 ≡ scanned_as s

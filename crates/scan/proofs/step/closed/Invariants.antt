@@ -1,0 +1,9 @@
+-- `closed`: each answer is the automaton's. The invariant: behind the lists that have ended, the prospect at `i` is that of the start.
+use Rattle.scan.proofs.Shutting.{Shutting}
+use Rattle.scan.proofs.step.closed.Given as goal
+
+abbrev pub invariant-loop-d : goal.invariant-loop-d
+invariant-loop-d l = Shutting l.text l.depth l.elements l.at l.d l.i
+
+abbrev pub decreases-loop-d : goal.decreases-loop-d
+decreases-loop-d l = l.d
