@@ -6,7 +6,7 @@ use mathlib.Core.List.{List, [], ◌∷◌}
 use Rattle.answers.specs.Answers.{DEEP, GROUPS}
 use Rattle.text.specs.Limits.{levels, text_most}
 use Rattle.text.specs.Text.{refusal}
-use Rattle.groups.specs.Reading.{Token, num, bad, tokens, begin, at, refused, taken, closing, element, run, answer, scanned}
+use Rattle.groups.specs.Reading.{Token, num, bad, tokens, begin, at, refused, closing, element, run, answer, scanned}
 use Rattle.groups.specs.Laws.RunLaws.{rests_refused, rests_taken}
 use Rattle.numbers.specs.Numbered.{Numbered, Unnumbered}
 use Rattle.numbers.specs.Laws.NumberedLaws.{one-numbered}
