@@ -26,7 +26,7 @@ pub record SameEnd (g h : ℕ) (ds es : List Cell) (n m : ℕ) : Type 0 where
 one_more : {g h : ℕ} {ds es : List Cell} {n m : ℕ} → SameEnd g h ds es n m → SameEnd g h ds es (suc n) (suc m)
 one_more s = record { free = s.free; cells = s.cells; freed = ap suc s.freed }
 
-pub one_end : {g h f : ℕ} {ds es cs : List Cell} {x n m : ℕ} {ws : List ℕ} → Erased g ds f cs x ws n → Erased h es f cs x ws m → SameEnd g h ds es n m
+pub one_end : {g h : ℕ} {ds es : List Cell} {f : ℕ} {cs : List Cell} {x n m : ℕ} {ws : List ℕ} → Erased g ds f cs x ws n → Erased h es f cs x ws m → SameEnd g h ds es n m
 one_end (shared p a) (shared q b) = one_end a b
 one_end (shared p a) (atom q k b) = absurd (omega arith)
 one_end (shared p a) (list q k b) = absurd (omega arith)

@@ -29,7 +29,7 @@ module _ {E : Engine} {ws : List ℕ} where
   stays (refused a d) z = refl
   stays (done a s) z = absurd (omega arith)
 
-  first-refused : {ts us qs : List ℕ} {o : Operation} {os : List Operation} {n k : ℕ} → Stops Four E ws ts (o ∷ os) n k us qs → k ≡ 0 → Answers (operation_rows (shown Four ts) o) n
+  first-refused : {ts us : List ℕ} {o : Operation} {qs : List ℕ} {os : List Operation} {n k : ℕ} → Stops Four E ws ts (o ∷ os) n k us qs → k ≡ 0 → Answers (operation_rows (shown Four ts) o) n
   first-refused (refused a d) z = a
   first-refused (done a s) z = absurd (omega arith)
 
