@@ -1,4 +1,5 @@
 -- `ops::dispatch` meets its contract.
+use native.Mathlib.Omega.{arith}
 use mathlib.Core.Path.{◌≡◌, ap}
 use mathlib.Core.Bool.{true}
 use Rattle.pool.specs.Script.{uses_b, Operation}
@@ -91,12 +92,9 @@ returns-in-9 c = rw c.in-9.is (c.conc.ensures _)
 pub returns-in-10 : goal.returns-in-10
 returns-in-10 c = rw c.in-10.is (c.first.ensures _ _)
 
+-- what is none of the first ten codes is the last
 pub returns-in_default : goal.returns-in_default
 returns-in_default c =
-    let k = code_range (asked c) c.requires.opened.coded in
-    let r = c.in_default.rest in
-    let l = r.0.0.0.0.0 in
-    let six = above _ 5 (above _ 4 (above _ 3 (above _ 2 (above _ 1 k.0 l.0.0.0.0.1) l.0.0.0.1) l.0.0.1) l.0.1) l.1 in
-    let ten = above _ 9 (above _ 8 (above _ 7 (above _ 6 six r.0.0.0.0.1) r.0.0.0.1) r.0.0.1) r.0.1 in
-    let e = just _ 11 (above _ 10 ten r.1) k.1 in
+    let k = code_range (asked (goal.at.returns-in_default c).Start) c.requires.opened.coded in
+    let e : c.args.code ≡ 11 = omega (arith, k, c.in_default-own.rest) in
     rw e (c.length.ensures _ _)
