@@ -96,5 +96,5 @@ returns-in-10 c = rw c.in-10.is (c.first.ensures _ _)
 pub returns-in_default : goal.returns-in_default
 returns-in_default c =
     let k = code_range (asked (goal.at.returns-in_default c).Start) c.requires.opened.coded in
-    let e : c.args.code ≡ 11 = omega (arith, k, c.in_default-own.rest) in
+    let e : c.args.code ≡ 11 = omega (arith, k, c.in_default.in_default-own.rest) in
     rw e (c.length.ensures _ _)
