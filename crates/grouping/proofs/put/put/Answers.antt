@@ -48,21 +48,24 @@ fits c =
     ap (λ (n : ℕ). judged (usable n) (items (list_at (view a.s a.t.now).cells a.x))) (same c) ∙ c.requires.writable
 
 -- its first number ends within the room
-ends : (c : After-put-first) → c.put-first.result ≤ length c.args.out.now
-ends c =
+ends : (c : After-put-first) →
+    let a = c.args in
+    length (number (2 * a.n + 1)) ≤ length (groups_of (list_at (view a.s a.t.now).cells a.x)) → c.put-first.result ≤ length a.out.now
+ends c h =
     let a = c.args in
     let l = list_at (view a.s a.t.now).cells a.x in
-    omega (arith, c.put-first.ensures.value, has_room c, groups_fit l (usable (length a.out.now)) c.requires.writable)
+    omega (arith, c.put-first.ensures.value, h, groups_fit l (usable (length a.out.now)) c.requires.writable)
 
 went : (c : After-put_step-w) →
     let a = c.args in
     let l = list_at (view a.s a.t.now).cells a.x in
     let old = c.put-first.new.out in
+    judged (usable (length old)) (items l) ≡ DONE →
     Putting (view a.s a.t.now).cells l (usable (length old)) old c.put_step-w.new.out c.put_step-w.new.after c.put_step-w.result
     × (to_go (length (groups_of l)) c.put_step-w.result < to_go (length (groups_of l)) c.loop-w.w)
-went c =
+went c f =
     let p = c.loop-w in
-    put_on _ _ _ _ p.out p.after p.w p.invariant (omega arith) (fits c) (omega arith) _ c.put_step-w.result _ _
+    put_on _ _ _ _ p.out p.after p.w p.invariant (omega arith) f (omega arith) _ c.put_step-w.result _ _
     c.put_step-w.ensures.1 c.put_step-w.ensures.2
 
 pub overflow_mul-n : goal.overflow_mul-n
@@ -80,7 +83,7 @@ pub loop-w-init : goal.loop-w-init
 loop-w-init c =
     let a = c.args in
     put-begins _ _ c.put-first.result (2 * a.n + 1) a.out.now _ c.requires.stands (number_is (goal.at.loop-w-init c).Start)
-    (omega (arith, c.put-first.ensures.value)) (ends (goal.at.loop-w-init c).After-put-first) c.put-first.ensures.out_after _ _ (fits (goal.at.loop-w-init c).After-put-first) c.started-w.ensures
+    (omega (arith, c.put-first.ensures.value)) (ends (goal.at.loop-w-init c).After-put-first (has_room (goal.at.loop-w-init c).Start)) c.put-first.ensures.out_after _ _ (fits (goal.at.loop-w-init c).After-put-first) c.started-w.ensures
 
 pub put_step-w-requires : goal.put_step-w-requires
 put_step-w-requires c =
@@ -89,10 +92,10 @@ put_step-w-requires c =
     let deep = shallow _ _ _ _ p.out p.after p.w p.invariant (omega arith) f in record { table = c.requires.table; may_turn = may_turn _ _ _ p.after p.w p.invariant.opened p.invariant.walks (omega arith) _ c.requires.table.measured (omega arith) deep; roomy = roomy _ _ _ _ p.out p.after p.w p.invariant (omega arith) f _ (omega (arith, p.invariant.room)) }
 
 pub loop-w-smaller : goal.loop-w-smaller
-loop-w-smaller c = (went (goal.at.loop-w-smaller c).After-put_step-w).1
+loop-w-smaller c = (went (goal.at.loop-w-smaller c).After-put_step-w (fits (goal.at.loop-w-smaller c).After-put-first)).1
 
 pub loop-w-preserved : goal.loop-w-preserved
-loop-w-preserved c = (went (goal.at.loop-w-preserved c).After-put_step-w).0
+loop-w-preserved c = (went (goal.at.loop-w-preserved c).After-put_step-w (fits (goal.at.loop-w-preserved c).After-put-first)).0
 
 pub shape_of-out : goal.shape_of-out
 shape_of-out c =
@@ -105,5 +108,5 @@ returns c =
     let p = c.loop-w in
     put_ends _ l _ a.out.now _ p.out p.after p.w p.invariant (omega arith)
     (put-behind _ _ c.put-first.result (2 * a.n + 1) a.out.now _ c.requires.stands (number_is (goal.at.returns c).Start)
-    (omega (arith, c.put-first.ensures.value)) (ends (goal.at.returns c).After-put-first) c.put-first.ensures.out_after (length (groups_of l))
+    (omega (arith, c.put-first.ensures.value)) (ends (goal.at.returns c).After-put-first (has_room (goal.at.returns c).Start)) c.put-first.ensures.out_after (length (groups_of l))
     (omega (arith, c.put-first.ensures.value, has_room (goal.at.returns c).Start)))

@@ -26,10 +26,12 @@ room c =
 
 went : (c : After-step-w) →
     let a = c.args in
+    let w = c.loop-w.w in
+    (w.at ≢ 0 → kind_of (view a.s a.t.now).cells w.at ≢ 0 → w.depth < levels) →
     Turned (view a.s a.t.now).cells c.loop-w.invariant.opened c.step-w.new.after c.loop-w.w c.step-w.result c.step-w.ensures.0
-went c =
+went c r =
     let p = c.loop-w in
-    turned _ p.after p.w p.invariant.opened p.invariant.walks.stands (omega arith) _ c.step-w.result _ (room c) c.step-w.ensures.1
+    turned _ p.after p.w p.invariant.opened p.invariant.walks.stands (omega arith) _ c.step-w.result _ r c.step-w.ensures.1
 
 pub of_list-first-requires : goal.of_list-first-requires
 of_list-first-requires c =
@@ -75,18 +77,18 @@ step-w-requires c =
 pub returns-then-w-usable : goal.returns-then-w-usable
 returns-then-w-usable c =
     let p = c.loop-w in
-    refuses _ _ _ OUTPUT _ (overflows _ _ _ p.after p.w p.invariant.opened p.invariant.walks (omega arith) _ _ _ (went (goal.at.returns-then-w-usable c).After-step-w) c.if-w-usable.true) (λ q. omega arith)
+    refuses _ _ _ OUTPUT _ (overflows _ _ _ p.after p.w p.invariant.opened p.invariant.walks (omega arith) _ _ _ (went (goal.at.returns-then-w-usable c).After-step-w (room (goal.at.returns-then-w-usable c).After-after-1)) c.if-w-usable.true) (λ q. omega arith)
     c.refused-then-w-usable.ensures
 
 pub loop-w-smaller : goal.loop-w-smaller
 loop-w-smaller c =
     let p = c.loop-w in
-    less _ _ _ p.after p.w p.invariant.opened p.invariant.walks (omega arith) _ _ _ (went (goal.at.loop-w-smaller c).After-step-w) c.args.usable c.if-w-usable.false
+    less _ _ _ p.after p.w p.invariant.opened p.invariant.walks (omega arith) _ _ _ (went (goal.at.loop-w-smaller c).After-step-w (room (goal.at.loop-w-smaller c).After-after-1)) c.args.usable c.if-w-usable.false
 
 pub loop-w-preserved : goal.loop-w-preserved
 loop-w-preserved c =
     let p = c.loop-w in
-    let d = went (goal.at.loop-w-preserved c).After-step-w in
+    let d = went (goal.at.loop-w-preserved c).After-step-w (room (goal.at.loop-w-preserved c).After-after-1) in
     record {
       opened = d.left;
       walks = goes_on_lem _ _ _ p.after p.w p.invariant.opened p.invariant.walks (omega arith) _ _ _ d c.if-w-usable.false;
