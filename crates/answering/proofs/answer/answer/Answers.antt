@@ -45,18 +45,15 @@ returns-in-New c =
 pub returns-in-Operation : goal.returns-in-Operation
 unfolding does
 returns-in-Operation c =
-    let g = c.order-in-Operation-1.given in
-    by_order (goal.at.returns-in-Operation c).After-parse-order (Operation g.0.0 g.0.1.0 g.0.1.1.0 g.0.1.1.1.0) _ _ _ g.1
+    by_order (goal.at.returns-in-Operation c).After-parse-order (Operation c.in-Operation.code c.in-Operation.a c.in-Operation.b c.in-Operation.v) _ _ _ c.in-Operation.is
     (c.tell_said-in-Operation.ensures _ c.operate-said.ensures)
 
 pub returns-in-Reading : goal.returns-in-Reading
 unfolding does
 returns-in-Reading c =
-    let g = c.order-in-Reading-1.given in
-    by_order (goal.at.returns-in-Reading c).After-parse-order (Reading g.0.0 g.0.1.0) _ _ _ g.1
+    by_order (goal.at.returns-in-Reading c).After-parse-order (Reading c.in-Reading.h c.in-Reading.at) _ _ _ c.in-Reading.is
     (c.tell_said-in-Reading.ensures _ c.read_text-said.ensures)
 
 pub returns-in-Writing : goal.returns-in-Writing
 returns-in-Writing c =
-    let g = c.order-in-Writing-1.given in
-    by_order (goal.at.returns-in-Writing c).After-parse-order (Writing g.0.0) _ c.args.table.now _ g.1 c.do_writing.ensures
+    by_order (goal.at.returns-in-Writing c).After-parse-order (Writing c.in-Writing.h) _ c.args.table.now _ c.in-Writing.is c.do_writing.ensures

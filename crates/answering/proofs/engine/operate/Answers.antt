@@ -11,7 +11,7 @@ pub returns : goal.returns
 returns c =
     let a = c.args in
     let z : a.used - 0 ≡ a.used = omega arith in
-    operates a.table.now _ _ _ _ _ (a.used - 0) _ _ _ _ _ z (c.run-r.auto.0 ∙ length-take-le (a.used - 0) a.table.now (omega arith) ∙ z)
+    operates a.table.now _ _ _ _ _ (a.used - 0) _ _ _ _ _ z (c.run-r.auto.table ∙ length-take-le (a.used - 0) a.table.now (omega arith) ∙ z)
     c.requires.1
     (record {
       answer = ap (λ (o : Outcome). o.answer) c.run-r.ensures.outcome;

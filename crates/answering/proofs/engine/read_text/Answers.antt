@@ -14,6 +14,6 @@ returns c =
     let z : a.used - 0 ≡ a.used = omega arith in
     let y : n - 0 ≡ n = omega arith in
     reads a.table.now _ _ _ _ (drop a.at a.line.now) _ _ _ (a.used - 0) (n - 0) _ z
-    (c.read-r.auto.1.0 ∙ length-take-le (a.used - 0) a.table.now (omega arith) ∙ z)
-    c.requires.used_in_bounds.1 (ap (λ (j : ℕ). take j c.fill_text-n.new.page.0) y ∙ c.fill_text-n.ensures.bytes)
+    (c.read-r.auto.t ∙ length-take-le (a.used - 0) a.table.now (omega arith) ∙ z)
+    c.requires.used_in_bounds.1 (ap (λ (j : ℕ). take j c.fill_text-n.new.page) y ∙ c.fill_text-n.ensures.bytes)
     c.read-r.ensures
