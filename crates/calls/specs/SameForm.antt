@@ -11,7 +11,7 @@ use Rattle.pool.specs.Laws.CheckLaws.{check_decides}
 use Rattle.pool.specs.Laws.Lengths.{Alike}
 use Rattle.pool.specs.Pool.{Pool, Sound}
 use Rattle.pool.specs.Script.{performed}
-use Rattle.pool.specs.Laws.ScriptLaws.{performed_sound, performed_alike}
+use Rattle.pool.proofs.Whole.{performed_sound, performed_alike}
 use Rattle.groups.specs.declared.Stored.{Stored}
 use Rattle.table.specs.declared.Form.{Form}
 use Rattle.table.specs.declared.Shape.{Shape}

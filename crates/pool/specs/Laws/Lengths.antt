@@ -64,28 +64,28 @@ copy-length (suc k) f cs (suc i) y =
     copy-length k (next_of (share cs e) f) (with_twin f cs (suc i) y) (next_of cs (suc i)) f ∙ put-length (share cs e) f (twin cs (suc i) y) ∙ share-length cs e
 
 module _ (p : Pool) (a b : ℕ) where
-  pfa_alike : (v : ℕ) → Alike p (pfa p a v)
+  pub pfa_alike : (v : ℕ) → Alike p (pfa p a v)
   unfolding pfa
   pfa_alike v = record {
     holders = length-set p.holders a p.free;
     cells = put-length p.cells p.free (record { kind = 0; elem = v; count = 1; next = holder p a });
   }
 
-  pfl_alike : Alike p (pfl p a b)
+  pub pfl_alike : Alike p (pfl p a b)
   unfolding pfl
   pfl_alike = record {
     holders = twice p.holders a b p.free 0;
     cells = put-length p.cells p.free (record { kind = 1; elem = holder p b; count = 1; next = holder p a });
   }
 
-  decap_alike : Alike p (decap p a b)
+  pub decap_alike : Alike p (decap p a b)
   unfolding decap
   decap_alike = record {
     holders = twice p.holders a b (next_of p.cells (holder p a)) (item p.cells (holder p a));
     cells = free-length p.cells (holder p a) p.free;
   }
 
-  adv_alike : Alike p (adv p a b)
+  pub adv_alike : Alike p (adv p a b)
   unfolding adv
   adv_alike =
       let x = holder p a in
@@ -96,40 +96,31 @@ module _ (p : Pool) (a b : ℕ) where
         cells = dropped-length p.free (share (share p.cells e) s) x ∙ share-length (share p.cells e) s ∙ share-length p.cells e;
       }
 
-  borrow_alike : Alike p (borrow p a b)
+  pub borrow_alike : Alike p (borrow p a b)
   unfolding borrow
   borrow_alike = record { holders = length-set p.holders b (holder p a); cells = share-length p.cells (holder p a) }
 
-  erase_alike : Alike p (erase p a).0
+  pub erase_alike : Alike p (erase p a).0
   unfolding erase
   erase_alike = record { holders = length-set p.holders a 0; cells = dropped-length p.free p.cells (holder p a) }
 
-  inv_alike : Alike p (inv p a)
+  pub inv_alike : Alike p (inv p a)
   unfolding inv
   inv_alike = record {
     holders = length-set p.holders a (flip (length p.cells) p.cells (holder p a) 0).1;
     cells = flip-length (length p.cells) p.cells (holder p a) 0;
   }
 
-  cinv_alike : Alike p (cinv p a b)
+  pub cinv_alike : Alike p (cinv p a b)
   unfolding cinv
   cinv_alike =
       let z = copy (length p.cells) p.free p.cells (holder p a) 0 in
       record { holders = length-set p.holders b z.head; cells = copy-length (length p.cells) p.free p.cells (holder p a) 0 }
 
-  conc_alike : (x y : ℕ) → Alike p (conc_at p a b x y)
+  pub conc_alike : (x y : ℕ) → Alike p (conc_at p a b x y)
   unfolding conc_at
   conc_alike x zero = alike_refl p
   conc_alike zero (suc j) = record { holders = twice p.holders a b (suc j) 0; cells = refl }
   conc_alike (suc i) (suc j) =
       let z = last_of (length p.cells) p.cells (suc i) in
       record { holders = twice p.holders a b (suc i) 0; cells = put-length p.cells z (followed (at p.cells z) (suc j)) }
-
-pub effect_alike : (p : Pool) (o : Operation) → Alike p (effect p o).pool
-unfolding conc
-effect_alike p o =
-    let a = o.a in
-    let b = o.b in
-    by_code (Alike p) p o (λ e. pfa_alike p a b o.v) (λ e. pfl_alike p a b) (λ e. decap_alike p a b) (λ e. adv_alike p a b) (λ e. borrow_alike p a b)
-    (λ e. erase_alike p a b) (λ e. inv_alike p a b)
-    (λ e. cinv_alike p a b) (λ e. conc_alike p a b (holder p a) (holder p b)) (alike_refl p)

@@ -20,7 +20,6 @@ use Rattle.pool.specs.Laws.Copy.{cinv-does}
 use Rattle.pool.specs.Laws.Conc.{conc-does}
 use Rattle.pool.specs.Laws.Level.{length_is, both_false, alone}
 use Rattle.pool.specs.Laws.ByCode.{either_way, by_code}
-use Rattle.pool.specs.Laws.Lengths.{Alike, alike_refl, alike_trans, effect_alike}
 
 -- the tests of the words themselves, 6 to 8, do not hold
 pub record Opened (p : Pool) (o : Operation) : Type 0 where
@@ -58,7 +57,7 @@ allowed p o e =
     }
 
 -- the same with the code said as a number, so that the tests compute
-with_code : (p : Pool) (o : Operation) (c : ℕ) → o.code ≡ c → Allowed p o → Allowed p (record { code = c; a = o.a; b = o.b; v = o.v })
+pub with_code : (p : Pool) (o : Operation) (c : ℕ) → o.code ≡ c → Allowed p o → Allowed p (record { code = c; a = o.a; b = o.b; v = o.v })
 with_code p o c e h = subst (λ (k : ℕ). Allowed p (record { code = k; a = o.a; b = o.b; v = o.v })) e h
 
 module _ (p : Pool) (o : Operation) (h : Opened p o) where
@@ -88,77 +87,3 @@ free_some p s n = omega (arith, no_room p.free p.cells (occ p.holders) (sound_he
 -- the first count where it is not over 1
 pub own_head : (p : Pool) (a : ℕ) → Sound p → holder p a ≢ 0 → count_of p.cells (holder p a) ≤ 1 → count_of p.cells (holder p a) ≡ 1
 own_head p a s n l = omega (arith, holder_live p a s n)
-
-module _ (p : Pool) (o : Operation) (s : Sound p) (h : Allowed p o) where
-  sound_pfa : o.code ≡ PFA → Sound (pfa p o.a o.v)
-  sound_pfa e = (pfa-does p o.a o.v s (a_holder p o h.opened) (some_free p s (ltb-false (frees p.cells) 1 (with_code p o PFA e h).room))).sound
-
-  sound_pfl : o.code ≡ PFL → Sound (pfl p o.a o.b)
-  sound_pfl e =
-      let (lb, ab) = b-holder p o h.opened (ap uses_b e) in
-      (pfl-does p o.a o.b s (a_holder p o h.opened) lb ab (some_free p s (ltb-false (frees p.cells) 1 (with_code p o PFL e h).room))).sound
-
-  sound_decap : o.code ≡ DECAP → Sound (decap p o.a o.b)
-  sound_decap e =
-      let (lb, ab) = b-holder p o h.opened (ap uses_b e) in
-      let w = with_code p o DECAP e h in
-      let x = holder p o.a in
-      let one = own_head p o.a s (eqb-false x 0 w.filled)
-      (ltb-false 1 (count_of p.cells x) (both_false (ltb 1 (count_of p.cells x)) false w.own).0) in
-      (decap-does p o.a o.b s (a_holder p o h.opened) lb ab (eqb-true (holder p o.b) 0 (not-false _ w.vacant)) one).sound
-
-  sound_adv : o.code ≡ ADV → Sound (adv p o.a o.b)
-  sound_adv e =
-      let (lb, ab) = b-holder p o h.opened (ap uses_b e) in
-      let w = with_code p o ADV e h in
-      (adv-does p o.a o.b s (a_holder p o h.opened) lb ab (eqb-true (holder p o.b) 0 (not-false _ w.vacant))
-      (eqb-false (holder p o.a) 0 w.filled)).sound
-
-  sound_borrow : o.code ≡ BORROW → Sound (borrow p o.a o.b)
-  sound_borrow e =
-      (borrow-does p o.a o.b s (b-holder p o h.opened (ap uses_b e)).0
-      (eqb-true (holder p o.b) 0 (not-false _ (with_code p o BORROW e h).vacant))).sound
-
-  sound_inv : o.code ≡ INV → Sound (inv p o.a)
-  sound_inv e =
-      let (l, w) = denoted p s o.a in
-      (inv-does p o.a l s (a_holder p o h.opened) w (alone p o.a l s w (with_code p o INV e h).own)).sound
-
-  sound_cinv : o.code ≡ CINV → Sound (cinv p o.a o.b)
-  sound_cinv e =
-      let (l, w) = denoted p s o.a in
-      let k = with_code p o CINV e h in
-      (cinv-does p o.a o.b l s (b-holder p o h.opened (ap uses_b e)).0 (eqb-true (holder p o.b) 0 (not-false _ k.vacant)) w
-      (omega (arith, length_is p o.a l s w, frees-lives p.cells, ltb-false (frees p.cells) (length_of p o.a) k.room))).sound
-
-  sound_conc : o.code ≡ CONC → Sound (conc p o.a o.b)
-  sound_conc e =
-      let (lb, ab) = b-holder p o h.opened (ap uses_b e) in
-      let (l, w) = denoted p s o.a in
-      let (m, u) = denoted p s o.b in
-      let k : (not (eqb (holder p o.b) 0) && shared_at p o.a) ≡ false = (with_code p o CONC e h).own in
-      (conc-does p o.a o.b l m s (a_holder p o h.opened) lb ab w u (λ n. alone p o.a l s w (rw (ne_eqb (holder p o.b) 0 n) at k))).sound
-
-  pub effect_sound : Sound (effect p o).pool
-  effect_sound = by_code Sound p o sound_pfa sound_pfl sound_decap sound_adv sound_borrow (λ e. (erases p o.a s).sound) sound_inv sound_cinv sound_conc s
-
-pub after_sound : (p : Pool) (o : Operation) → Sound p → Sound (pool_after p o)
-unfolding pool_after
-after_sound p o s =
-    either_way Sound (eqb (refusal p o) DONE) (effect p o).pool p (λ e. effect_sound p o s (allowed p o (eqb-true (refusal p o) DONE e))) (λ e. s)
-
--- a whole script
-
-pub performed_sound : (os : List Operation) (p : Pool) → Sound p → Sound (performed p os).pool
-unfolding performed
-performed_sound [] p s = s
-performed_sound (o ∷ os) p s =
-    either_way (λ (r : Run). Sound r.pool) (eqb (refusal p o) DONE) _ _
-    (λ e. performed_sound os (effect p o).pool (effect_sound p o s (allowed p o (eqb-true (refusal p o) DONE e)))) (λ e. s)
-
-pub performed_alike : (os : List Operation) (p : Pool) → Alike p (performed p os).pool
-unfolding performed
-performed_alike [] p = alike_refl p
-performed_alike (o ∷ os) p =
-    either_way (λ (r : Run). Alike p r.pool) (eqb (refusal p o) DONE) _ _ (λ e. alike_trans (effect_alike p o) (performed_alike os (effect p o).pool))
-    (λ e. alike_refl p)

@@ -15,7 +15,7 @@ use Rattle.pool.specs.Laws.Holders.{occ-take, both, both_a, both-b}
 use Rattle.pool.specs.Laws.ShareLaws.{share-length, share_live}
 use Rattle.pool.specs.Laws.SoundLaws.{none_aside, sound_held}
 use Rattle.pool.specs.Laws.Advance.{holder_live, null_or_item, lends}
-use Rattle.pool.specs.Laws.Lengths.{effect_alike}
+use Rattle.pool.proofs.Whole.{effect_alike}
 use Rattle.pool.specs.Laws.ByCode.{by_code}
 use Rattle.pool.specs.Script.{number_kind, PFA, PFL, DECAP, ADV, BORROW, ERASE, CINV, CONC, Operation, Effect, among, effect}
 use Rattle.pool.specs.Laws.ScriptLaws.{Allowed, allowed, a_holder, b-holder, some_free}

@@ -12,8 +12,8 @@ use Rattle.pool.specs.Operations.{list_of}
 use Rattle.pool.specs.Laws.SoundLaws.{denoted}
 use Rattle.pool.specs.Script.{Operation, Run, refusal, effect, goes_on, stops, performed}
 use Rattle.pool.specs.Laws.ByCode.{either_way}
-use Rattle.pool.specs.Laws.Lengths.{effect_alike}
-use Rattle.pool.specs.Laws.ScriptLaws.{allowed, effect_sound}
+use Rattle.pool.proofs.Whole.{effect_alike, effect_sound}
+use Rattle.pool.specs.Laws.ScriptLaws.{allowed}
 use Rattle.text.specs.Text.{Answer}
 use Rattle.groups.specs.Stored.{size_fault, verdict, scanned, list_in, judged}
 use Rattle.groups.specs.Laws.StoredLaws.{right-size}

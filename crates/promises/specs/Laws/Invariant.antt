@@ -8,7 +8,7 @@ use Rattle.pool.specs.Laws.Edit.{put-length}
 use Rattle.pool.specs.Operations.{load, read}
 use Rattle.pool.specs.Script.{performed}
 use Rattle.pool.specs.Laws.Lengths.{Alike}
-use Rattle.pool.specs.Laws.ScriptLaws.{performed_sound, performed_alike}
+use Rattle.pool.proofs.Whole.{performed_sound, performed_alike}
 use Rattle.table.specs.View.{shape}
 use Rattle.groups.specs.Stored.{list_in}
 use Rattle.groups.specs.declared.Stored.{Stored as Kind}

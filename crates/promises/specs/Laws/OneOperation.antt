@@ -3,10 +3,10 @@ use Rattle.std.specs.Prelude.{◌≡◌, List, [], ◌∷◌, ℕ}
 use Rattle.std.proofs.Common.{sym, ap, ◌∙◌}
 use Rattle.answers.specs.Answers.{DONE}
 use Rattle.pool.specs.Script.{Operation, Run, refusal, effect}
-use Rattle.pool.specs.Laws.Lengths.{effect_alike}
+use Rattle.pool.proofs.Whole.{effect_alike, effect_sound}
 use Rattle.calls.specs.Entry.{shown, stored, over}
 use Rattle.calls.specs.Run.{Ran, operations, ran_in}
-use Rattle.pool.specs.Laws.ScriptLaws.{allowed, effect_sound}
+use Rattle.pool.specs.Laws.ScriptLaws.{allowed}
 use Rattle.promises.specs.Demand1.{words_of}
 use Rattle.promises.specs.Laws.Tables.{Good, Stored, stores}
 use Rattle.promises.specs.Laws.RunLaws.{passed_good, run_ways}

@@ -6,7 +6,8 @@ use Rattle.lists.specs.Lst.{Lst}
 use Rattle.pool.specs.Pool.{Pool, Sound}
 use Rattle.pool.specs.Script.{Operation, Run, refusal, effect, goes_on, stops, performed, among, PFA, PFL, DECAP, ADV, BORROW, ERASE, INV, CINV, CONC}
 use Rattle.pool.specs.Laws.ByCode.{either_way}
-use Rattle.pool.specs.Laws.ScriptLaws.{allowed, effect_sound}
+use Rattle.pool.specs.Laws.ScriptLaws.{allowed}
+use Rattle.pool.proofs.Whole.{effect_sound}
 use Rattle.promises.specs.Grounds.{with_b, UsesB}
 use Rattle.promises.specs.Laws.Tells.{tells_among}
 use Rattle.promises.specs.Machine.{Lists, assign, turn, turn_all, Says}

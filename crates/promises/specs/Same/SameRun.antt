@@ -12,7 +12,8 @@ use Rattle.pool.specs.Operations.{erase}
 use Rattle.pool.specs.Laws.EraseLaws.{erases}
 use Rattle.pool.specs.Laws.SoundLaws.{denoted}
 use Rattle.pool.specs.Script.{PFA, ERASE, LENGTH, Operation, Effect, bad_code, refusal, effect, tells_number, performed}
-use Rattle.pool.specs.Laws.ScriptLaws.{allowed, effect_sound}
+use Rattle.pool.specs.Laws.ScriptLaws.{allowed}
+use Rattle.pool.proofs.Whole.{effect_sound}
 use Rattle.calls.specs.Entry.{work_words, entry_fault, shown, stored, over}
 use Rattle.calls.specs.Laws.EntryLaws.{entry_alike}
 use Rattle.calls.specs.Run.{operations, Ran, ran_in}

@@ -16,7 +16,7 @@ use Rattle.ops.specs.Laws.ReplyLaws.{Did, did, stopped}
 use Rattle.ops.specs.declared.Reply.TheVariants.{Done, Refused}
 use Rattle.pool.specs.Pool.{Pool, Sound}
 use Rattle.pool.specs.Script.{Operation, Effect, Run, refusal, effect, pool_after, stops, goes_on, performed}
-use Rattle.pool.specs.Laws.ScriptLaws.{after_sound}
+use Rattle.pool.proofs.Whole.{after_sound}
 use Rattle.scripts.specs.Midway.{operation_at, written, left, resumed, Midway}
 use Rattle.scripts.specs.Performs.{Performs}
 use Rattle.table.specs.View.{view, Table}
