@@ -1,7 +1,7 @@
 -- The cases of document 02's second request, each kind as one table under one theorem: bytes, what the check of groups
 -- answers and takes, and the groups of the list that it finds; and the edges of each number of groups.
 use Rattle.std.specs.Prelude.{ℕ, ◌+◌, ◌*◌, ◌≡◌, refl, List, [], ◌∷◌, ◌++◌, map, cond, eqb, replicate}
-use Rattle.lists.specs.Lst.{nil, atom, list, len}
+use Rattle.lists.specs.Lst.{nil, atom, len}
 use Rattle.groups.specs.Groups.{groups_f, number, elements, groups_of}
 use Rattle.groups.specs.Reading.{tokens, scanned, size_fault, verdict, list_in}
 

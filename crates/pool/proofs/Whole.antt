@@ -1,21 +1,20 @@
 -- A sound pool stays sound, and as large as it is, through an operation and through a script, whatever they are. Here, and
 -- not in specs/, because a must-fail edit changes DECAP's definition: what rests on the law that it breaks stands behind it.
-use Rattle.std.specs.Prelude.{◌≡◌, refl, ◌≢◌, Bool, true, false, cond, not, ◌&&◌, List, [], ◌∷◌, ℕ, zero, suc, ◌≤◌, ◌<◌, eqb, leb, ltb, length}
-use Rattle.std.proofs.Common.{ap, subst, arith}
-use package.borrow.Author.Tests.{not-false, ne_eqb, ltb-false, leb-false, eqb-true, eqb-false}
-use Rattle.answers.specs.Answers.{DONE, CODE, HOLDER, SAME, NULL, OCCUPIED, SHARED, NO_ROOM}
-use Rattle.pool.specs.Tally.{occ}
-use Rattle.pool.specs.Pool.{Pool, at, count_of, holder, frees, Sound}
+use Rattle.std.specs.Prelude.{◌≡◌, false, not, ◌&&◌, List, [], ◌∷◌, eqb, ltb}
+use Rattle.std.proofs.Common.{ap, arith}
+use package.borrow.Author.Tests.{not-false, ne_eqb, ltb-false, eqb-true, eqb-false}
+use Rattle.answers.specs.Answers.{DONE}
+use Rattle.pool.specs.Pool.{Pool, count_of, holder, frees, Sound}
 use Rattle.pool.specs.Operations.{pfa, pfl, decap, adv, borrow, inv, cinv, conc, length_of, shared_at}
-use Rattle.pool.specs.Script.{PFA, PFL, DECAP, ADV, BORROW, INV, CINV, CONC, Operation, uses_b, bad_code, bad_holder, same_holder, null_list, occupied, shared_cells, lacks_room, refusal, effect, pool_after, Run, performed}
-use Rattle.pool.specs.Laws.SoundLaws.{sound_held, denoted}
+use Rattle.pool.specs.Script.{PFA, PFL, DECAP, ADV, BORROW, INV, CINV, CONC, Operation, uses_b, refusal, effect, pool_after, Run, performed}
+use Rattle.pool.specs.Laws.SoundLaws.{denoted}
 use Rattle.pool.specs.Laws.EraseLaws.{erases}
 use Rattle.pool.specs.Laws.Prefix.{pfa-does, pfl-does}
 use Rattle.pool.specs.Laws.Borrow.{borrow-does}
 use Rattle.pool.specs.Laws.Decap.{decap-does}
-use Rattle.pool.specs.Laws.Advance.{holder_live, adv-does}
+use Rattle.pool.specs.Laws.Advance.{adv-does}
 use Rattle.pool.specs.Laws.Inverse.{inv-does}
-use Rattle.pool.specs.Laws.Room.{room, no_room, frees-lives}
+use Rattle.pool.specs.Laws.Room.{frees-lives}
 use Rattle.pool.specs.Laws.Copy.{cinv-does}
 use Rattle.pool.specs.Laws.Conc.{conc-does}
 use Rattle.pool.specs.Laws.Level.{length_is, both_false, alone}

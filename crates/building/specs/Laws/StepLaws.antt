@@ -6,10 +6,10 @@ use Rattle.pool.specs.Operations.{read}
 use Rattle.pool.specs.Pool.{Pool, frees, Sound}
 use Rattle.table.specs.declared.Shape.{Shape}
 use Rattle.table.specs.View.{view, Table, Shows}
-use Rattle.text.specs.Marks.{Mark, opened, shut, value, marks_of}
+use Rattle.text.specs.Marks.{Mark, opened, value, marks_of}
 use Rattle.building.specs.Hooks.{link_of, hook_next, hook_elem, open_cells, Hangs, Hung}
 use Rattle.building.specs.Reading.{hang}
-use Rattle.building.specs.Underway.{Underway, LeadsTo, Coming, Comes, Steps, BeginsList, AddsAtom, ShutsList}
+use Rattle.building.specs.Underway.{LeadsTo, Coming, Comes, Steps, BeginsList, AddsAtom, ShutsList}
 use Rattle.building.specs.Laws.MarksLeft.{all_left}
 use Rattle.building.specs.Laws.ReadingLaws.{Fresh, start}
 use Rattle.building.specs.Laws.UnderwayLaws.{hooked, atom-fresh, atom-begun, list_fresh, list_begun, none_left, underway, list_shut}

@@ -11,7 +11,6 @@ use Rattle.pool.specs.Pool.{Cell, kind_of, elem_of, count_of, Live, lives}
 use Rattle.pool.specs.Erase.{Dropping, visit, step, stepped, dropping, total, dropped}
 use Rattle.pool.specs.Laws.Held.{Held, reroot, root_live}
 use Rattle.pool.specs.Laws.Frame.{Kept}
-use Rattle.pool.specs.Laws.Steps.{freed}
 use Rattle.pool.specs.Laws.Drop.{Wait, Waits, waits, items, DropInv, case_shared, case_atom, case_list, case_pop}
 
 abbrev pub todo : Dropping → List Wait → ℕ

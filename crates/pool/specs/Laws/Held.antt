@@ -6,7 +6,6 @@ use Rattle.std.proofs.Common.{ap, ◌∙◌, inl, inr, arith}
 use Rattle.std.proofs.Math.Path.{subst}
 use Prim.Native.Nat.{ℕ, zero, suc, ◌+◌, ◌≤◌, ◌<◌}
 use Rattle.std.proofs.Math.Decide.{ℕ_discrete}
-use Rattle.lists.specs.Lst.{len}
 use Rattle.pool.specs.Tally.{same, occ}
 use Rattle.pool.specs.Laws.TallyLaws.{same_le}
 use Rattle.pool.specs.Pool.{Cell, at, put, kind_of, count_of, next_of, Live, InPool, sends, into, StepOf, Step, Walk, Chain, mark}

@@ -6,11 +6,9 @@ use Prim.Native.Nat.{ℕ, zero, suc, ◌+◌, ◌-◌}
 use Rattle.std.proofs.Math.ListN.{length-set}
 use Rattle.pool.specs.Pool.{Cell, Pool, at, kind_of, count_of, next_of, counted, followed, set_count, set_next, holder}
 use Rattle.pool.specs.Erase.{Dropping, visit, step, dropping, total, dropped, stepped}
-use Rattle.pool.specs.Operations.{share, item, pfa, pfl, decap, adv, borrow, erase, flip, inv, twin, with_twin, copy, cinv, last_of, conc_at, conc}
-use Rattle.pool.specs.Script.{Operation, effect}
+use Rattle.pool.specs.Operations.{share, item, pfa, pfl, decap, adv, borrow, erase, flip, inv, twin, with_twin, copy, cinv, last_of, conc_at}
 use Rattle.pool.specs.Laws.Edit.{put-length}
 use Rattle.pool.specs.Laws.ShareLaws.{share-length}
-use Rattle.pool.specs.Laws.ByCode.{by_code}
 
 pub record Alike (p q : Pool) : Type 0 where
   pub holders : length q.holders ≡ length p.holders

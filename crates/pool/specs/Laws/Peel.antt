@@ -3,7 +3,6 @@
 use Rattle.std.specs.Prelude.{◌≡◌, refl, ◌≢◌, ◌↔◌, List, ℕ, suc, ◌+◌, ◌<◌}
 use Rattle.std.proofs.Common.{sym, ◌∙◌, subst, arith}
 use Rattle.std.proofs.Math.Decide.{ℕ_discrete}
-use Rattle.lists.specs.Lst.{len}
 use Rattle.pool.specs.Tally.{same}
 use Rattle.pool.specs.Laws.TallyLaws.{same_eq, same_ne}
 use Rattle.pool.specs.Pool.{Cell, at, put, count_of, counted, set_count, Live, InPool, gives, sends, StepOf, Step, Walk}

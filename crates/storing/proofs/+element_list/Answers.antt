@@ -1,4 +1,3 @@
-use mathlib.Core.Path.{sym, ◌∙◌}
 use mathlib.Core.List.{[]}
 use native.Mathlib.Omega.{arith}
 use Rattle.storing.specs.Laws.ElementLaws.{atom_small, atom_comes, atom-read, list_on, list_comes, inside_due, list_read}

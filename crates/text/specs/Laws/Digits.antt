@@ -1,5 +1,5 @@
 -- Read back, an atom: the digits kept of it, from what was read so far and what is to come, are those that it is written with.
-use Rattle.std.specs.Prelude.{ℕ, zero, suc, ◌+◌, ◌-◌, ◌*◌, ◌/◌, ◌%◌, ◌<◌, ◌≤◌, ◌≡◌, refl, List, [], ◌∷◌, ◌++◌, Bool, true, false, cond, eqb, ltb}
+use Rattle.std.specs.Prelude.{ℕ, zero, suc, ◌+◌, ◌*◌, ◌/◌, ◌%◌, ◌<◌, ◌≤◌, ◌≡◌, refl, List, [], ◌∷◌, ◌++◌, Bool, true, false, cond, eqb, ltb}
 use Rattle.std.proofs.Common.{sym, ap, ◌∙◌, append_assoc, arith, lt-ltb, le-ltb, le-leb, ne_eqb}
 use Rattle.text.specs.Limits.{atoms_end}
 use Rattle.text.specs.ListText.{octal_f, octal, is_digit_byte, head_digit, idle, bare}

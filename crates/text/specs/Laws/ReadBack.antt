@@ -5,7 +5,7 @@ use Rattle.std.proofs.Common.{sym, ap, subst, ◌∙◌, arith, take_at, ltb-tru
 use Rattle.text.specs.Limits.{levels, record_bytes, digits_most, atoms_end}
 use Rattle.text.specs.Text.{Phase, at_start, after_open, after_comma, in_atom, after_element, after_all, Scan, place, begin, may_open, may_shut, may_part, may_begin, is_atom, is_over, Step, mark, fault, State, at, taken, run, settle, step_of, open_at, shut_at, comma_at, blank_at, digit_at}
 use Rattle.text.specs.ListText.{text_of, bare}
-use Rattle.text.specs.Marks.{Mark, opened, value, marks_of, met, trace, pushes, top_of, list_in}
+use Rattle.text.specs.Marks.{Mark, opened, marks_of, met, trace, pushes, top_of, list_in}
 use Rattle.text.specs.Laws.TextLaws.{by_case, no_yes, rests_taken, never_taken, digit-step, Class, is_open, is_shut, is_comma, is_blank, is_digit, is_other, class}
 use Rattle.text.specs.Laws.MarkLaws.{built, digit-met}
 use Rattle.text.specs.Laws.Front.{front}
