@@ -1,7 +1,7 @@
 /*
  * tabeshilo.h: the C side of Tabeshilo, a list engine after Collins' SAC-1 report.
  *
- * Link with libtabeshilo.a (`rt staticlib tabeshilo` writes it to target/staticlib; it is for x86-64 Linux, and
+ * Link with libtabeshilo.a (tools/library makes it and prints its path; it is for x86-64 Linux, and
  * docs/PORTING.md says how to have it for another processor). The archive asks for nothing but memcpy and memset.
  *
  *
