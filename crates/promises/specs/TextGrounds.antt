@@ -7,7 +7,7 @@ use Rattle.pool.specs.Tally.{occ}
 use Rattle.text.specs.Limits.{levels, record_bytes, text_most, digits_most, atoms_end}
 use Rattle.text.specs.Text.{others}
 use Rattle.text.specs.ListText.{text_of, is_digit_byte, bare}
-use Rattle.text.specs.Writing.{usable, depth_after}
+use Rattle.text.specs.Writing.{depth_after}
 use Rattle.promises.specs.Rows.{Row, row}
 
 abbrev pub BadText : List ℕ → Type 0

@@ -1,6 +1,6 @@
 -- Our operations use the cells that document 01 names: the table afterwards shows the effect on the pool, and each effect says which cells it
 -- uses. Here those that take one cell, or erase; LevelsDo has those that go along a level.
-use Rattle.std.specs.Prelude.{◌≡◌, ◌≢◌, true, cond, List, [], ◌∷◌, eqb, length, get_or, set, take}
+use Rattle.std.specs.Prelude.{◌≡◌, ◌≢◌, true, cond, List, [], ◌∷◌, eqb, length, get_or, set}
 use Rattle.std.proofs.Math.Path.{refl}
 use Rattle.std.proofs.Common.{sym, ap, ◌∙◌, subst, arith, get_or-set_same, get_or-set_other}
 use Prim.Native.Nat.{ℕ, zero, suc, ◌+◌, ◌≤◌, ◌<◌}

@@ -7,7 +7,7 @@ use Prim.Native.Nat.{ℕ, zero, suc, ◌+◌, ◌≤◌, ◌<◌}
 use package.borrow.Author.Tests.{ltb-false, leb-false}
 use Rattle.answers.specs.Answers.{DONE}
 use Rattle.lists.specs.Lst.{Lst, extent}
-use Rattle.pool.specs.Tally.{same, tally, occ}
+use Rattle.pool.specs.Tally.{tally, occ}
 use Rattle.pool.specs.Pool.{Pool, at, put, count_of, counted, followed, set_next, holder, Live, NullOrLive, Chain, frees, Sound}
 use Rattle.pool.specs.Laws.Edit.{live_cell}
 use Rattle.pool.specs.Operations.{item, inv, cinv, conc_at, conc, last_of, length_of, read}
@@ -17,7 +17,7 @@ use Rattle.pool.specs.Laws.Advance.{null_or_item}
 use Rattle.pool.specs.Laws.Level.{length_is}
 use Rattle.pool.specs.Laws.Reach.{len_le}
 use Rattle.pool.specs.Laws.Chains.{Chain_once}
-use Rattle.pool.specs.Script.{INV, CINV, CONC, FIRST, LENGTH, Operation, effect}
+use Rattle.pool.specs.Script.{INV, CINV, CONC, Operation, effect}
 use Rattle.pool.specs.Laws.ScriptLaws.{Allowed, a_holder, b-holder}
 use Rattle.pool.specs.Laws.TallyLaws.{Same, eq, ne, same?}
 use Rattle.groups.specs.Stored.{list_in}

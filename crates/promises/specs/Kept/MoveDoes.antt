@@ -28,7 +28,7 @@ use Rattle.promises.specs.Laws.Tells.{unless-first, none-answered}
 use Rattle.promises.specs.Laws.Invariant.{read_has}
 use Rattle.promises.specs.Laws.ReadLaws.{Taken, filled_in, read_ways}
 use Rattle.promises.specs.Laws.WriteLaws.{opened_good, list_of_is, write_ways}
-use Rattle.promises.specs.Laws.MoveLaws.{Moved, move_ways, moves}
+use Rattle.promises.specs.Laws.MoveLaws.{Moved, move_ways}
 use Rattle.promises.specs.Laws.StoredRows.{byte_answers, byte_each, spells_once, spells_ours, Judged, judges}
 use Rattle.promises.specs.Laws.StoredTrips.{spelt, accepted-size, written_read, written_anew, shallow, fitting, not_deep}
 use Rattle.table.specs.declared.Form.{Form}

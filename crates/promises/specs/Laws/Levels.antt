@@ -3,7 +3,7 @@
 use Rattle.std.specs.Prelude.{◌≡◌, refl, ◌≢◌, List, [], ◌∷◌, ℕ, zero, suc, ◌≤◌, ◌<◌, length, get_or}
 use Rattle.std.proofs.Common.{sym, ap, ◌∙◌, subst, arith}
 use Rattle.lists.specs.Lst.{Lst, nil, atom, list, len}
-use Rattle.pool.specs.Tally.{same, tally, occ}
+use Rattle.pool.specs.Tally.{tally, occ}
 use Rattle.pool.specs.Pool.{Cell, Pool, at, count_of, next_of, followed, set_next, Live, InPool, ListAt, Chain, frees, Sound}
 use Rattle.pool.specs.Laws.Edit.{put_same, put_other, live_cell}
 use Rattle.pool.specs.Laws.Chains.{Chain_unique, Chain_once, sound_chain_length}

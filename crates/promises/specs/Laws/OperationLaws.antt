@@ -9,7 +9,7 @@ use Rattle.std.proofs.Math.ListN.{get_or}
 use Rattle.std.proofs.Math.Seq.{get_or-set_same}
 use package.borrow.Author.Tests.{not-false, ltb-false, eqb-true, eqb-false, eq-eqb, ne_eqb}
 use Rattle.lists.specs.Lst.{Lst, nil, atom, list, reversed, joined}
-use Rattle.pool.specs.Pool.{Pool, at, kind_of, elem_of, count_of, holder, ListAt, frees, Sound}
+use Rattle.pool.specs.Pool.{Pool, kind_of, elem_of, count_of, holder, ListAt, frees, Sound}
 use Rattle.pool.specs.Operations.{pfa, pfl, decap, adv, borrow, erase, inv, cinv, conc, length_of, shared_at}
 use Rattle.pool.specs.Script.{PFA, PFL, DECAP, ADV, BORROW, ERASE, INV, CINV, CONC, FIRST, LENGTH, Operation, effect}
 use Rattle.pool.specs.Laws.EraseLaws.{erases}

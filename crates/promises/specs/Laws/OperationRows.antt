@@ -1,5 +1,5 @@
 -- An operation on a sound pool is refused exactly as document 01's rows say.
-use Rattle.std.specs.Prelude.{◌≡◌, refl, ◌↔◌, ℕ, length, drop}
+use Rattle.std.specs.Prelude.{◌≡◌, refl, ◌↔◌, ℕ, drop}
 use Rattle.std.proofs.Common.{arith}
 use Rattle.answers.specs.Answers.{DONE, CODE, HOLDER, SAME, NULL, OCCUPIED, SHARED, NO_ROOM}
 use Rattle.pool.specs.Pool.{Pool, Sound}

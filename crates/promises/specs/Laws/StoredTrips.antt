@@ -14,7 +14,7 @@ use Rattle.text.specs.Writing as writing
 use Rattle.groups.specs.Groups.{number, list_number, elements, groups_of, Fits}
 use Rattle.groups.specs.Reading as reading
 use Rattle.groups.specs.Writing as grouping
-use Rattle.groups.specs.Stored.{size_fault, scanned, verdict, list_in, bytes_of, judged}
+use Rattle.groups.specs.Stored.{size_fault, verdict, list_in, bytes_of, judged}
 use Rattle.groups.specs.Laws.FitLaws.{fits_atoms, text_fits}
 use Rattle.groups.specs.Laws.Sizes.{number_size, fits_judged, judged_fits}
 use Rattle.groups.specs.Laws.SizeLaws as sizes

@@ -3,7 +3,6 @@
 -- what is wrong about stored forms in WrongStored, WrongTexts, WrongGroups and WrongMoves.
 use Rattle.std.specs.Prelude.{Bool, cond, ◌&&◌, List, ℕ, eqb, length, get_or, set, take, replicate}
 use Rattle.answers.specs.Answers.{DONE, TABLE_SIZE, NO_ROOM}
-use Rattle.pool.specs.Check.{check}
 use Rattle.pool.specs.Script.{PFA, ERASE}
 use Rattle.table.specs.Fields.{put_field}
 use Rattle.pool.specs.Setters.{put_free}

@@ -1,7 +1,5 @@
 -- `reading::read_open` meets its contract.
 use borrow.Author.Tests.{not-false}
-use mathlib.Core.Path.{ap}
-use mathlib.Core.Bool.{not}
 use mathlib.Core.Path.{◌≡◌, sym, ◌∙◌}
 use Prim.Native.Nat.{◌<◌}
 use native.Mathlib.Omega.{arith}

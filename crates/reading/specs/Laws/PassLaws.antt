@@ -1,6 +1,6 @@
 -- The second pass begins behind the outermost "(", goes on with each step, and ends with the list in the holder.
 use Rattle.std.specs.Prelude.{◌≡◌, List, [], ◌∷◌, ◌++◌, ℕ, ◌≤◌, ◌<◌, length, drop, get_or}
-use Rattle.std.proofs.Common.{sym, ap}
+use Rattle.std.proofs.Common.{sym}
 use Rattle.std.proofs.Math.Path.{subst}
 use Rattle.building.specs.Hooks.{hook_next}
 use Rattle.building.specs.Underway.{LeadsTo}

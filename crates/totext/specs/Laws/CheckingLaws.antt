@@ -9,7 +9,7 @@ use native.Mathlib.Omega.{arith}
 use Rattle.answers.specs.Answers.{DONE, DEEP, GROUPS}
 use Rattle.groups.specs.Groups.{number}
 use Rattle.groups.specs.Holding.{Holding}
-use Rattle.groups.specs.Reading.{Token, num, bad, tokens, State, begin, at, refused, taken, closing, next, run, answer, scanned, list_in}
+use Rattle.groups.specs.Reading.{Token, num, bad, tokens, State, begin, at, refused, closing, next, run, answer, scanned, list_in}
 use Rattle.groups.specs.Laws.RunLaws.{rests_refused, rests_taken}
 use Rattle.groups.specs.Laws.Taking.{tokens-number, scanned_holds}
 use Rattle.lists.specs.Lst.{Lst}

@@ -1,4 +1,4 @@
-use Prim.Native.Nat.{◌-◌, ◌<◌}
+use Prim.Native.Nat.{◌<◌}
 use native.Mathlib.Omega.{arith}
 use lib.ListN.{length}
 use Rattle.scan.proofs.Shutting.{shut_once, closed-comma, closed_again, closed-over}

@@ -1,5 +1,4 @@
 -- `reading::next::closed` meets its contract.
-use Prim.Native.Nat.{◌-◌}
 use Rattle.scan.proofs.Shutting.{Shutting}
 use Rattle.reading.proofs.next.closed.Given as goal
 

@@ -1,6 +1,6 @@
 -- `togroups::atoms::further` meets its contract. The invariant: the digits from i on are gathered, and end where the
 -- first did.
-use Prim.Native.Nat.{◌+◌, ◌-◌}
+use Prim.Native.Nat.{◌+◌}
 use mathlib.Core.Path.{◌≡◌}
 use lib.ListN.{drop}
 use Rattle.scan.specs.Runs.{digit_run}

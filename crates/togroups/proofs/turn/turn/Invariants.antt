@@ -1,6 +1,6 @@
 -- `togroups::turn::turn` meets its contract. The invariant: the bytes before i and from j on are turned.
 -- The second loop is handed bytes that are turned in part already: it turns on whatever is being turned.
-use Prim.Native.Nat.{ℕ, ◌-◌, ◌≤◌}
+use Prim.Native.Nat.{ℕ, ◌≤◌}
 use mathlib.Core.List.{List}
 use lib.ListN.{length}
 use Rattle.togroups.specs.Turned.{Turning}

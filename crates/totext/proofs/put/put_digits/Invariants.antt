@@ -1,5 +1,4 @@
 -- `totext::put::put_digits` meets its contract. The invariant: a run of atoms leads to r.
-use Prim.Native.Nat.{◌-◌}
 use Rattle.groups.specs.Reading.{list_in}
 use Rattle.text.specs.ListText.{text_of}
 use Rattle.totext.specs.Putting.{Ran}

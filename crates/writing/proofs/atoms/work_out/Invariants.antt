@@ -2,7 +2,7 @@
 use mathlib.Core.List.{◌++◌}
 use mathlib.Core.Path.{◌≡◌}
 use lib.ListN.{length, drop}
-use Prim.Native.Nat.{◌+◌, ◌≤◌, ◌-◌}
+use Prim.Native.Nat.{◌≤◌}
 use Rattle.writing.specs.Numeral.{last_digits}
 use Rattle.text.specs.Limits.{digits_most}
 use Rattle.writing.proofs.atoms.work_out.Given as goal
