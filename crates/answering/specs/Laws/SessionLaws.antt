@@ -1,6 +1,6 @@
 -- What the engine's calls and the reply leave, joined to what a line does.
-use Rattle.std.specs.Prelude.{◌≡◌, refl, Bool, true, false, cond, List, [], ◌∷◌, ◌++◌, ℕ, ◌+◌, ◌*◌, ◌≤◌, eqb, length, get_or, take, drop, replicate}
-use Rattle.std.proofs.Common.{sym, ap, ◌∙◌, append-nil, arith, length-append, take_at}
+use Rattle.std.specs.Prelude.{◌≡◌, refl, Bool, true, false, cond, List, [], ◌∷◌, ◌++◌, ℕ, ◌+◌, ◌≤◌, eqb, length, get_or, take, drop, replicate}
+use Rattle.std.proofs.Common.{sym, ap, ◌∙◌, arith, length-append, take_at}
 use Rattle.std.proofs.lemmas.List.{length-replicate}
 use Rattle.std.proofs.lemmas.List.Edits.{sets-eq}
 use Rattle.std.proofs.Math.Seq.{length-sets}
@@ -21,7 +21,7 @@ use Rattle.lines.specs.Printed.{reply, column, line_feed}
 use Rattle.lines.specs.Laws.PrintedLaws.{column_short}
 use Rattle.answering.specs.declared.answer.Answered.{Answered}
 use Rattle.answering.specs.declared.engine.Said.{Said}
-use Rattle.answering.specs.Session.{Turn, Told, nothing_kind, free_cells, opened, opening, new_words, work_most, performing, operated, replied, asked, does, answered}
+use Rattle.answering.specs.Session.{Told, nothing_kind, free_cells, opened, opening, new_words, work_most, performing, operated, replied, asked, does, answered}
 use Rattle.answering.specs.Kept.{reply_most, Prints, Says, Speaks}
 use Rattle.table.specs.declared.Form.TheVariants.{Four}
 

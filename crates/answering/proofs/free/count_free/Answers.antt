@@ -1,6 +1,5 @@
 use mathlib.Core.Path.{refl}
 use native.Mathlib.Omega.{arith}
-use Prim.Native.Nat.{◌-◌}
 use Rattle.pool.specs.Laws.TallyLaws.{same_le}
 use Rattle.sound.specs.Laws.CountLaws.{counts_none, counts_one, counts_all}
 use Rattle.answering.proofs.free.count_free.Goals as goal
