@@ -15,7 +15,7 @@ use Rattle.pool.proofs.Whole.{performed_sound, performed_alike}
 use Rattle.groups.specs.declared.Stored.{Stored}
 use Rattle.table.specs.declared.Form.{Form}
 use Rattle.table.specs.declared.Shape.{Shape}
-use Rattle.table.specs.Laws.Fitting.{stored-shows}
+use Rattle.table.proofs.Fitting.{stored-shows}
 use Rattle.table.specs.Sizes.{cells_of, shape_of, cleared}
 use Rattle.table.specs.Laws.SizesLaws.{table_shape}
 use Rattle.table.specs.View.{holder_count, view, words, Table}

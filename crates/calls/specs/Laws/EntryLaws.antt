@@ -9,7 +9,8 @@ use Rattle.table.specs.declared.Form.{Form}
 use Rattle.table.specs.declared.Shape.{Shape}
 use Rattle.table.specs.Sizes.{cells_of, shape_of}
 use Rattle.table.specs.View.{Table}
-use Rattle.table.specs.Laws.SizesLaws.{cells_table, table_shape}
+use Rattle.table.specs.Laws.SizesLaws.{table_shape}
+use Rattle.table.proofs.SizesLaws.{cells_table}
 use Rattle.calls.specs.Entry.{bad_table, bad_work, entry_fault, Provided}
 
 module _ (k : ℕ) (f : Form) (ts : List ℕ) (n : ℕ) where

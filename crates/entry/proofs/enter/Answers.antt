@@ -5,7 +5,7 @@ use Prim.Native.Nat.{ℕ, ◌*◌}
 use native.Mathlib.Omega.{arith}
 use Rattle.table.specs.declared.Shape.{Shape}
 use Rattle.table.specs.Sizes.{cells_of}
-use Rattle.table.specs.Laws.SizesLaws.{cells_table}
+use Rattle.table.proofs.SizesLaws.{cells_table}
 use Rattle.calls.specs.Laws.EntryLaws.{no_table, no_work, no_fault}
 use Rattle.entry.specs.Laws.EntryLaws.{times_le, answered, opens}
 use Rattle.entry.proofs.enter.Goals.{After-shape_of-s, Else-n-eq0}

@@ -7,12 +7,13 @@ use Rattle.pool.specs.Pool.{Pool, Sound}
 use Rattle.pool.specs.Laws.CheckLaws.{check_decides}
 use Rattle.pool.specs.Laws.Lengths.{Alike}
 use Rattle.table.specs.declared.Shape.{Shape}
-use Rattle.table.specs.Laws.Fitting.{stored-shows}
+use Rattle.table.proofs.Fitting.{stored-shows}
 use Rattle.table.specs.Sizes as table
 use Rattle.table.specs.View.{view, words, Table}
 use Rattle.table.specs.Sizes.{cells_of, shape_of}
-use Rattle.table.specs.Laws.SizesLaws.{cells_table, table_shape}
-use Rattle.table.specs.Laws.WordsLaws.{words-view}
+use Rattle.table.specs.Laws.SizesLaws.{table_shape}
+use Rattle.table.proofs.SizesLaws.{cells_table}
+use Rattle.table.proofs.WordsLaws.{words-view}
 use Rattle.calls.specs.Entry.{work_words, bad_table, entry_fault, shown, unsound, stored}
 use Rattle.calls.specs.Laws.EntryLaws.{entry_tests}
 use Rattle.promises.specs.Laws.Tells.{Tells}

@@ -15,7 +15,7 @@ use Rattle.table.specs.declared.Shape.{Shape}
 use Rattle.table.specs.Limits.{holders_told}
 use Rattle.table.specs.Sizes.{cells_of, shape_of}
 use Rattle.table.specs.View.{shape, view, Table}
-use Rattle.table.specs.Laws.SizesLaws.{cells_table}
+use Rattle.table.proofs.SizesLaws.{cells_table}
 use Rattle.table.specs.Laws.ViewLaws.{pool-path}
 use Rattle.table.specs.Laws.TabLaws.{length-tab}
 use Rattle.table.specs.Laws.FixedLaws.{view_fixes}

@@ -10,7 +10,8 @@ use Rattle.table.specs.Laws.ViewLaws.{pool-path, cell-path}
 use Rattle.table.specs.Laws.FixedLaws.{view_fixes}
 use Rattle.table.specs.declared.Shape.{Shape}
 use Rattle.table.specs.Sizes.{sizes_fit}
-use Rattle.table.specs.Laws.SizesLaws.{Fits, fits_told, fits_table}
+use Rattle.table.specs.Laws.SizesLaws.{Fits, fits_told}
+use Rattle.table.proofs.SizesLaws.{fits_table}
 use Rattle.calls.specs.SetUp.{set_up_in}
 use Rattle.promises.specs.Engine.{Engine}
 use Rattle.promises.specs.Rows.{First}

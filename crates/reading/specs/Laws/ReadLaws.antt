@@ -23,7 +23,7 @@ use Rattle.table.specs.declared.Form.{Form}
 use Rattle.table.specs.Sizes.{shape_of}
 use Rattle.table.specs.Laws.SizesLaws.{table_shape}
 use Rattle.table.specs.View.{holder_count, view, words, Table, Shows}
-use Rattle.table.specs.Laws.WordsLaws.{shown-words}
+use Rattle.table.proofs.WordsLaws.{shown-words}
 use Rattle.table.specs.declared.Shape.{Shape}
 use Rattle.text.specs.Text.{Answer}
 use Rattle.calls.specs.Promised.{Reads}

@@ -19,7 +19,7 @@ use Rattle.table.specs.declared.Form.{Form}
 use Rattle.table.specs.declared.Shape.{Shape}
 use Rattle.table.specs.View.{view}
 use Rattle.table.specs.Laws.SizesLaws.{table_shape}
-use Rattle.table.specs.Laws.WordsLaws.{shown-words}
+use Rattle.table.proofs.WordsLaws.{shown-words}
 
 -- the sizes
 module _ (ss rs : List ℕ) where

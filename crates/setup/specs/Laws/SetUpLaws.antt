@@ -12,10 +12,10 @@ use Rattle.table.specs.Blank.{blank_pool}
 use Rattle.pool.specs.Setters.{celled, put_free}
 use Rattle.table.specs.Sizes.{sizes_fit}
 use Rattle.table.specs.View.{shape, view, words, Table, Shows}
-use Rattle.table.specs.Laws.Fitting.{sound_shows}
+use Rattle.table.proofs.Fitting.{sound_shows}
 use Rattle.table.specs.Laws.SizesLaws.{Fits, fits_told}
 use Rattle.table.specs.Laws.ViewLaws.{after}
-use Rattle.table.specs.Laws.WordsLaws.{shown-words}
+use Rattle.table.proofs.WordsLaws.{shown-words}
 use Rattle.calls.specs.SetUp.{Given, not_set_up, new_table, set_up_in}
 use Rattle.calls.specs.Promised.{SetsUp}
 use Rattle.setup.specs.Laws.Linked.{linked, linked-none}

@@ -2,9 +2,10 @@
 use mathlib.Core.Path.{ap}
 use native.Mathlib.Omega.{arith}
 use lib.ListN.{length}
-use Rattle.table.specs.Laws.SizesLaws.{fits_told, holds, some_words, cleared-length}
-use Rattle.table.specs.Laws.ViewLaws.{numbers}
-use Rattle.table.specs.Laws.BlankLaws.{lays_out}
+use Rattle.table.specs.Laws.SizesLaws.{fits_told, holds, cleared-length}
+use Rattle.table.proofs.SizesLaws.{some_words}
+use Rattle.table.proofs.ViewLaws.{numbers}
+use Rattle.table.proofs.BlankLaws.{lays_out}
 use Rattle.table.proofs.lay_out.Goals as goal
 
 pub tell_head-requires : goal.tell_head-requires

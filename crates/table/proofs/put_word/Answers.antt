@@ -1,7 +1,8 @@
 -- `table::put_word` meets its contract.
 use mathlib.Core.Path.{sym, ◌∙◌}
 use native.Mathlib.Omega.{arith}
-use Rattle.table.specs.Laws.ViewLaws.{in_two, in_four, store_two, store_four}
+use Rattle.table.specs.Laws.ViewLaws.{in_two, in_four}
+use Rattle.table.proofs.ViewLaws.{store_two, store_four}
 use Rattle.table.proofs.put_word.Goals as goal
 
 pub put_two-requires : goal.put_two-requires

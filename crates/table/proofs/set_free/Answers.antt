@@ -1,5 +1,5 @@
 -- `table::set_free` meets its contract.
-use Rattle.table.specs.Laws.ViewLaws.{stored-free}
+use Rattle.table.proofs.ViewLaws.{stored-free}
 use Rattle.table.proofs.set_free.Goals as goal
 
 pub returns : goal.returns

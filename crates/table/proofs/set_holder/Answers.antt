@@ -1,5 +1,5 @@
 -- `table::set_holder` meets its contract.
-use Rattle.table.specs.Laws.ViewLaws.{stored-holder}
+use Rattle.table.proofs.ViewLaws.{stored-holder}
 use Rattle.table.proofs.set_holder.Goals as goal
 
 pub returns : goal.returns

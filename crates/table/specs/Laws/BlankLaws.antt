@@ -1,6 +1,6 @@
--- Words of 0 that tell a shape are a table of it, and show a pool of zeros: past what is told every word is 0.
+-- Words of 0 that tell a shape show a pool of zeros: past what is told every word is 0.
 use Rattle.std.specs.Prelude.{◌≡◌, refl, ◌≢◌, Bool, true, false, List, ◌++◌, ℕ, zero, suc, ◌+◌, ◌*◌, ◌≤◌, ◌<◌, length, set, replicate}
-use Rattle.std.proofs.Common.{sym, ap, ap₂, ◌∙◌, subst, append-nil, arith, length-set, get_or-set_same, get_or-set_other, eqb-true}
+use Rattle.std.proofs.Common.{sym, ap, ap₂, ◌∙◌, append-nil, arith, length-set, get_or-set_same, get_or-set_other, eqb-true}
 use Rattle.std.proofs.Math.ListN.{get_or}
 use Rattle.std.proofs.lemmas.List.{length-replicate}
 use Rattle.std.proofs.Math.Seq.{drop-length}
@@ -12,11 +12,11 @@ use Rattle.table.specs.declared.Shape.{Shape}
 use Rattle.table.specs.Limits.{packs, head, cells_told, holders_fit, holders_told, holders_most}
 use Rattle.table.specs.Pack.{part}
 use Rattle.table.specs.Laws.TabLaws.{tab_always}
-use Rattle.table.specs.View.{holder_count, start, cell_word, cell_of, view, Table, Shows}
+use Rattle.table.specs.View.{holder_count, start, cell_word, cell_of, view}
 use Rattle.table.specs.Sizes.{cleared}
 use Rattle.table.specs.Blank.{headed, blank_pool}
 use Rattle.table.specs.Laws.ViewLaws.{pool-path, cell-path}
-use Rattle.table.specs.Laws.SizesLaws.{Fits, fits_table, some_words}
+use Rattle.table.specs.Laws.SizesLaws.{Fits}
 
 -- which words are stored
 pub cells_headed : (f : Form) (h n : ℕ) (ws : List ℕ) → head f ≤ 2 → set ws 0 n ≡ headed f h n ws
@@ -51,12 +51,12 @@ module _ (h n k : ℕ) where
   zero-past Packed i l = zero-head Packed i (omega arith) (λ m. omega arith)
   zero-past Wide i l = zero-head Wide i (omega arith) (λ m. omega arith)
 
-  tells_cells : (f : Form) → 0 < k → cells_told (headed f h n zeros) ≡ n
+  pub tells_cells : (f : Form) → 0 < k → cells_told (headed f h n zeros) ≡ n
   tells_cells Four l = get_or-set_same zeros 0 n 0 (rw length-replicate l)
   tells_cells Packed l = get_or-set_same zeros 0 n 0 (rw length-replicate l)
   tells_cells Wide l = get_or-set_other (set zeros 0 n) 2 0 h 0 (omega arith) ∙ get_or-set_same zeros 0 n 0 (rw length-replicate l)
 
-  tells_holders : (f : Form) → 2 < k → holders_fit f h ≡ true → holders_told f (headed f h n zeros) ≡ h
+  pub tells_holders : (f : Form) → 2 < k → holders_fit f h ≡ true → holders_told f (headed f h n zeros) ≡ h
   tells_holders Four l e = sym (eqb-true h holders_most e)
   tells_holders Packed l e = sym (eqb-true h holders_most e)
   tells_holders Wide l e = get_or-set_same (set zeros 0 n) 2 h 0 (rw length-set (rw length-replicate l))
@@ -79,21 +79,13 @@ unfolding cell_of
 zero-cell b a ws h i = cell-path (zero_word b a ws h 0 i) (zero_word b a ws h 1 i) (zero_word b a ws h 2 i) (zero_word b a ws h 3 i)
 
 module _ (s : Shape) (k : ℕ) (f : Fits s k) where
-  abbrev us : List ℕ
+  abbrev pub us : List ℕ
   us = headed s.form s.holders s.cells (replicate k 0)
-
-  headed_table : Table s us
-  headed_table =
-      let l : length us ≡ k = headed-length s.form s.holders s.cells (replicate k 0) ∙ length-replicate k 0 in
-      let w = some_words s k f in
-      fits_table s us (record { some = f.some; few = f.few; held = f.held; long = l ∙ f.long })
-      (tells_cells s.holders s.cells k s.form (omega arith))
-      (tells_holders s.holders s.cells k s.form w f.held)
 
   past : (i : ℕ) → head s.form ≤ i → get_or us i 0 ≡ 0
   past = zero-past s.holders s.cells k s.form
 
-  headed-view : view s us ≡ blank_pool s.cells s.holders
+  pub headed-view : view s us ≡ blank_pool s.cells s.holders
   unfolding view
   headed-view =
       pool-path (zero-head s.holders s.cells k s.form 1 (omega arith) (λ l. omega arith))
@@ -101,11 +93,5 @@ module _ (s : Shape) (k : ℕ) (f : Fits s k) where
       (tab_always s.cells (cell_of (packs s.form) (start s) us) blank (λ i l. zero-cell (packs s.form) (start s) us (λ j m. past j (omega arith)) i))
 
 -- all words cleared, and the shape told
-cleared-all : (ts : List ℕ) → cleared (length ts) ts ≡ replicate (length ts) 0
+pub cleared-all : (ts : List ℕ) → cleared (length ts) ts ≡ replicate (length ts) 0
 cleared-all ts = ap (λ (u : List ℕ). replicate (length ts) 0 ++ u) (drop-length ts) ∙ append-nil (replicate (length ts) 0)
-
-pub lays_out : (s : Shape) (ts : List ℕ) {us vs : List ℕ} → Fits s (length ts) → us ≡ cleared (length ts) ts → vs ≡ headed s.form s.holders s.cells us
-    → Shows s vs (blank_pool s.cells s.holders)
-lays_out s ts {us} {vs} f e q =
-    let z : vs ≡ headed s.form s.holders s.cells (replicate (length ts) 0) = q ∙ ap (headed s.form s.holders s.cells) (e ∙ cleared-all ts) in
-    subst (λ (u : List ℕ). Shows s u (blank_pool s.cells s.holders)) (sym z) (record { table = headed_table s (length ts) f; is = headed-view s (length ts) f })

@@ -1,6 +1,6 @@
--- The cells of a sound pool fit the two words of a packed cell: no count exceeds 2 N + H, and no successor N. So its words show it.
+-- The cells of a sound pool fit the two words of a packed cell: no count exceeds 2 N + H, and no successor N.
 use Rattle.std.specs.Prelude.{◌≡◌, refl, Bool, List, [], ◌∷◌, ℕ, zero, suc, ◌≤◌, ◌<◌, length, get_or}
-use Rattle.std.proofs.Common.{sym, ap, ◌∙◌, subst, inl, inr, arith}
+use Rattle.std.proofs.Common.{sym, ap, subst, inl, inr, arith}
 use Rattle.std.proofs.Math.Decide.{ℕ_discrete, dec_lt}
 use Rattle.std.proofs.Math.ListN.{get_or-eq_default}
 use Rattle.pool.specs.Laws.Bound.{count_bound}
@@ -8,12 +8,7 @@ use Rattle.pool.specs.Laws.Edit.{live_cell, mark-cell, mark-past}
 use Rattle.pool.specs.Pool.{Cell, blank, Pool, count_of, next_of, NullOrLive, Chain, Sound}
 use Rattle.pool.specs.Tally.{tally, occ}
 use Rattle.pool.specs.Laws.TallyLaws.{same_of, Same, eq, ne, same?}
-use Rattle.table.specs.declared.Shape.{Shape}
-use Rattle.table.specs.Limits.{packs}
-use Rattle.table.specs.View.{view, words, Table, Shows}
-use Rattle.table.specs.Laws.ViewLaws.{numbers}
-use Rattle.table.specs.Laws.SizesLaws.{Fits, fits_told, holds, table_fits}
-use Rattle.table.specs.Laws.WordsLaws.{Fit, view-words, words_table}
+use Rattle.table.specs.Laws.WordsLaws.{Fit}
 
 -- of the cells of a chain, each is followed by the next or by 0
 chain_next : (cs : List Cell) (n f : ℕ) (fs : List ℕ) → Chain cs f fs → ((c : ℕ) → 0 < occ fs c → c ≤ n) → (c : ℕ) → 0 < occ fs c → next_of cs c ≤ n
@@ -54,19 +49,5 @@ next_bound p s c = go (ℕ_discrete c 0) (dec_lt (length cs) c) (ℕ_discrete (c
         let z : 0 < occ k.0 c = omega (arith, k.2 c, mark-cell cs c (omega arith) (omega arith), same_of (count_of cs c) 0 e) in
         chain_next cs (length cs) p.free k.0 k.1 (λ d l. (mark-past cs d (omega (arith, k.2 d))).1) c z
 
-sound_fits : (b : Bool) (p : Pool) → Sound p → length p.cells ≤ 8000 → length p.holders ≤ 256 → (i : ℕ) → Fit b (get_or p.cells i blank)
+pub sound_fits : (b : Bool) (p : Pool) → Sound p → length p.cells ≤ 8000 → length p.holders ≤ 256 → (i : ℕ) → Fit b (get_or p.cells i blank)
 sound_fits b p s n h i = λ e. (omega (arith, count_bound p s (suc i)), omega (arith, next_bound p s (suc i)))
-
--- the words of a sound pool show it
-pub sound_shows : {k : ℕ} (s : Shape) (p : Pool) → Fits s k → length p.holders ≡ s.holders → length p.cells ≡ s.cells → Sound p → Shows s (words s p) p
-sound_shows s p f eh ec h =
-    let n = (numbers s.form s.cells f.few).few in
-    let w = (holds s.form s.holders f.held).wide in
-    record {
-      table = words_table s p eh ec f;
-      is = view-words s p eh ec (λ i l. sound_fits (packs s.form) p h (omega (arith, ec, n)) (omega (arith, eh, w)) i);
-    }
-
--- also where they take the place of a table that shows as many cells and holders
-pub stored-shows : (s : Shape) (ws : List ℕ) (p : Pool) → Table s ws → length p.holders ≡ length (view s ws).holders → length p.cells ≡ length (view s ws).cells → Sound p → Shows s (words s p) p
-stored-shows s ws p t eh ec h = sound_shows s p (fits_told s (length ws) (table_fits s ws t)) (eh ∙ t.held) (ec ∙ t.measured) h

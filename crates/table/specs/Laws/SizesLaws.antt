@@ -2,14 +2,13 @@
 use Rattle.table.specs.declared.Form.{Form}
 use Rattle.table.specs.declared.Form.TheVariants.{Four, Packed, Wide}
 use Rattle.table.specs.declared.Shape.{Shape}
-use Rattle.std.specs.Prelude.{◌≡◌, refl, ◌≢◌, Bool, true, false, cond, ◌&&◌, List, [], ◌∷◌, ◌++◌, ℕ, ◌≤◌, ◌<◌, zero, suc, ◌+◌, eqb, leb, length, get_or, set, replicate, drop}
+use Rattle.std.specs.Prelude.{◌≡◌, refl, Bool, true, false, cond, ◌&&◌, List, [], ◌∷◌, ◌++◌, ℕ, ◌≤◌, ◌<◌, zero, suc, ◌+◌, eqb, leb, length, get_or, set, replicate, drop}
 use Rattle.std.proofs.Common.{sym, ap, ◌∙◌, arith, length-append, length-drop, eq-eqb, le-leb, leb-true, eqb-true, drop-cons, add-one}
 use Rattle.std.proofs.lemmas.Bool.{false≢true, lt-leb}
 use Rattle.std.proofs.lemmas.List.{length-replicate, set_at}
 use Rattle.table.specs.Limits.{cells_most, cells_told, holders_fit, holders_told, holders_many, holders_most}
 use Rattle.table.specs.View.{shape, word_count, Table}
 use Rattle.table.specs.Sizes.{sizes_fit, cells_of, shape_of, cleared}
-use Rattle.table.specs.Laws.ViewLaws.{numbers, is_table}
 
 -- the number of holders that a form allows
 pub record Holds (h : ℕ) : Type 0 where
@@ -57,29 +56,7 @@ fits_told s k h = go (leb 1 s.cells) (leb s.cells (cells_most s.form)) (holders_
     go true false c d ea eb ec ed h = absurd (false≢true h)
     go false b c d ea eb ec ed h = absurd (false≢true h)
 
--- words of that size that tell the shape are a table of it
-pub fits_table : (s : Shape) (ts : List ℕ) → Fits s (length ts) → cells_told ts ≡ s.cells → holders_told s.form ts ≡ s.holders → Table s ts
-fits_table s ts f a b =
-    let w = holds s.form s.holders f.held in
-    is_table s ts f.some f.few w.some w.wide f.long a b
-
--- a table has more than two words
-pub some_words : (s : Shape) (k : ℕ) → Fits s k → 2 < k
-some_words s k f = omega (arith, f.long, (numbers s.form s.cells f.few).low, (holds s.form s.holders f.held).some)
-
--- words that tell a number of cells are a table of that shape
-pub cells_table : (f : Form) (ts : List ℕ) → cells_of f ts ≢ 0 → Table (shape_of f ts) ts
-unfolding cells_of
-cells_table f ts n = go (sizes_fit told (length ts)) refl n
-  where
-    told : Shape
-    told = shape f (holders_told f ts) (cells_told ts)
-
-    go : (b : Bool) → sizes_fit told (length ts) ≡ b → cond b (cells_told ts) 0 ≢ 0 → Table (shape f (holders_told f ts) (cond b (cells_told ts) 0)) ts
-    go true e m = fits_table told ts (fits_told told (length ts) e) refl refl
-    go false e m = absurd (m refl)
-
--- and a table tells its own
+-- a table tells its own shape
 table_holds : (f : Form) (h : ℕ) (ts : List ℕ) → holders_told f ts ≡ h → 1 ≤ h → h ≤ holders_many → holders_fit f h ≡ true
 table_holds Four h ts e a b = eq-eqb h holders_most (sym e)
 table_holds Packed h ts e a b = eq-eqb h holders_most (sym e)

@@ -2,11 +2,11 @@
 use Prim.Native.Nat.{ℕ, zero, suc, ◌+◌, ◌*◌, ◌-◌, ◌≤◌, ◌<◌, ◌^◌}
 use Rattle.std.specs.Prelude.{◌≢◌, ◌≡◌, length}
 use Rattle.std.proofs.Math.Path.{refl, ap, ap₂, sym}
-use Rattle.std.proofs.Common.{◌∙◌, subst, arith, length-set, get_or-set_same}
+use Rattle.std.proofs.Common.{◌∙◌, subst, arith, get_or-set_same}
 use Rattle.std.proofs.Math.Bool.{Bool, true, false}
 use Rattle.std.proofs.lemmas.Bool.{false≢true}
 use mathlib.Core.List.{List}
-use Rattle.std.proofs.Math.Decide.{ℕ_discrete, dec_lt}
+use Rattle.std.proofs.Math.Decide.{dec_lt}
 use Rattle.std.proofs.Math.ListN.{get_or, set, get_or-eq_default}
 use Rattle.std.proofs.Math.Seq.{get_or-set_other}
 use Rattle.table.specs.declared.Form.{Form}
@@ -14,14 +14,14 @@ use Rattle.table.specs.declared.Form.TheVariants.{Four, Packed, Wide}
 use Rattle.table.specs.declared.Shape.{Shape}
 use Rattle.pool.specs.Laws.Edit.{put_same, put-put}
 use Rattle.pool.specs.Pool.{Cell, blank, Pool, at, put, elem_of, holder}
-use Rattle.table.specs.Limits.{packs, head, cells_told, holders_told, holders_many, cells_most, cells_in}
+use Rattle.table.specs.Limits.{packs, head, holders_told, cells_in}
 use Rattle.table.specs.Tab.{tab}
 use Rattle.table.specs.Laws.TabLaws.{length-tab, get_or-tab, tab-same, tab-set}
 use Rattle.table.specs.Fields.{field, fitted, put_field}
 use Rattle.pool.specs.Setters.{cell, celled, put_cell, put_free, put_holder}
-use Rattle.table.specs.Pack.{part, room}
-use Rattle.table.specs.View.{word_count, holder_count, start, cell_word, stored_two, cell_of, view, Table, IsCell, Shows}
-use Rattle.table.specs.Laws.PutLaws.{Put, put_four, put_two}
+use Rattle.table.specs.Pack.{part}
+use Rattle.table.specs.View.{holder_count, start, cell_word, cell_of, view, Table, IsCell, Shows}
+use Rattle.table.specs.Laws.PutLaws.{Put}
 
 pub pool-path : {f f' : ℕ} {h h' : List ℕ} {c c' : List Cell} → f ≡ f' → h ≡ h' → c ≡ c' → ◌≡◌ {A = Pool} (record { free = f; holders = h; cells = c }) (record { free = f'; holders = h'; cells = c' })
 pool-path pf ph pc = λ i. record { free = pf i; holders = ph i; cells = pc i }
@@ -51,11 +51,6 @@ pub record Numbers (f : Form) (n : ℕ) : Type 0 where
   pub few : n ≤ 8000
   pub low : 2 ≤ head f
 
-pub numbers : (f : Form) (n : ℕ) → n ≤ cells_most f → Numbers f n
-numbers Four n a = record { few = omega arith; low = omega arith }
-numbers Packed n a = record { few = omega arith; low = omega arith }
-numbers Wide n a = record { few = omega arith; low = omega arith }
-
 -- any words show as many cells and holders as the shape has
 pub view_cells : (s : Shape) (ws : List ℕ) → length (view s ws).cells ≡ s.cells
 unfolding view
@@ -80,34 +75,11 @@ small_elems s ws h (suc i) = go (dec_lt i s.cells)
     go (yes l) = subst (λ (x : Cell). x.elem < 2 ^ 32) (sym (get_or-tab s.cells (cell_of (packs s.form) (start s) ws) i blank l)) (elem_small (packs s.form) (start s) ws i h)
     go (no l) = subst (λ (x : Cell). x.elem < 2 ^ 32) (sym (get_or-eq_default (view s ws).cells blank {n = i} (omega (arith, view_cells s ws)))) (omega arith)
 
--- a table is told by its words
-pub is_table : (s : Shape) (ws : List ℕ) → 1 ≤ s.cells → s.cells ≤ cells_most s.form → 1 ≤ s.holders → s.holders ≤ holders_many
-    → length ws ≡ word_count s → cells_told ws ≡ s.cells → holders_told s.form ws ≡ s.holders → Table s ws
-is_table s ws a b x y c d e =
-    let m = numbers s.form s.cells b in
-    record {
-      some = a;
-      within = b;
-      sized = c;
-      told = d;
-      heads = e;
-      few = m.few;
-      holds = x;
-      wide = y;
-      low = m.low;
-      measured = view_cells s ws;
-      held = view_holders s ws;
-    }
-
 -- words before the holders that agree
 pub told_same : (f : Form) (ws us : List ℕ) → ((w : ℕ) → w ≢ 1 → w < head f → get_or us w 0 ≡ get_or ws w 0) → holders_told f us ≡ holders_told f ws
 told_same Four ws us h = refl
 told_same Packed ws us h = refl
 told_same Wide ws us h = h 2 (omega arith) (omega arith)
-
-pub like : (s : Shape) (ws us : List ℕ) → Table s ws → length us ≡ length ws → ((w : ℕ) → w ≢ 1 → w < head s.form → get_or us w 0 ≡ get_or ws w 0) → Table s us
-like s ws us t l h =
-    is_table s us t.some t.within t.holds t.wide (l ∙ t.sized) (h 0 (omega arith) (omega (arith, t.low)) ∙ t.told) (told_same s.form ws us h ∙ t.heads)
 
 -- where a cell's words stand
 four-starts : (f : Form) (h : ℕ) (ws : List ℕ) → packs f ≡ false → holders_told f ws ≡ h → head f + h ≡ 66
@@ -138,7 +110,7 @@ module _ (s : Shape) (ws : List ℕ) (t : Table s ws) where
       let z : suc i - 1 ≡ i = omega arith in
       rw z (ap₂ (λ (x : Bool) (y : ℕ). cell_word x y k ws i) (sym e) (sym q)) ∙ read_at i k hc.high hk
 
-  view-put : (us : List ℕ) (k i v : ℕ) → Put (packs s.form) (start s) ws us k i v → i < s.cells → view s us ≡ put_field k (suc i) v (view s ws)
+  pub view-put : (us : List ℕ) (k i v : ℕ) → Put (packs s.form) (start s) ws us k i v → i < s.cells → view s us ≡ put_field k (suc i) v (view s ws)
   unfolding view
   view-put us k i v u hc =
       let b : Bool = packs s.form in
@@ -147,29 +119,6 @@ module _ (s : Shape) (ws : List ℕ) (t : Table s ws) where
       (tab-same (holder_count s) (λ h. get_or us (head s.form + h) 0) (λ h. get_or ws (head s.form + h) 0) (λ h l. u.heads (head s.form + h) (omega arith)))
       (tab-set s.cells (cell_of b a ws) (cell_of b a us) i hc (λ j l n. cell_same b a ws us j (λ m lm. u.others m j lm n))
       ∙ ap (set (tab s.cells (cell_of b a ws)) i) (cell-put b a ws us k i v u ∙ ap (fitted k v) (sym (get_or-tab s.cells (cell_of b a ws) i blank hc))))
-
-  pub shown : (us : List ℕ) (k c v : ℕ) → IsCell s c → (b : Bool) → packs s.form ≡ b → (a : ℕ) → start s ≡ a → Put b a ws us k (c - 1) v → Shows s us (put_field k c v (view s ws))
-  shown us k zero v hc b e a q u = absurd (omega (arith, hc.low))
-  shown us k (suc i) v hc b e a q u =
-      let z : suc i - 1 ≡ i = omega arith in
-      let w : Put (packs s.form) (start s) ws us k i v = rw (e, q, ← z) u in
-      record { table = like s ws us t w.long (λ x n l. w.heads x (omega arith)); is = view-put us k i v w hc.high }
-
-  pub store_two : (us : List ℕ) (c k v a : ℕ) → IsCell s c → k < 4 → v < room k → packs s.form ≡ true → a ≡ start s → us ≡ stored_two a (c - 1) k v ws → Shows s us (put_field k c v (view s ws))
-  store_two us c k v a hc hk hv e q z =
-      rw z (shown (stored_two a (c - 1) k v ws) k c v hc true e a (sym q) (put_two a ws k (c - 1) v hk hv (omega (arith, in_two c hc e))))
-
-  pub store_four : (us : List ℕ) (c k v : ℕ) → IsCell s c → k < 4 → packs s.form ≡ false → us ≡ set ws (66 + 4 * (c - 1) + k) v → Shows s us (put_field k c v (view s ws))
-  store_four us c k v hc hk e z =
-      rw z (shown (set ws (66 + 4 * (c - 1) + k) v) k c v hc false e 66 (at-four e) (put_four 66 ws k (c - 1) v hk (in_four c hc e)))
-
-  -- a store before the cells that keeps what they and the holders are told by
-  pub keeps : (w v : ℕ) → 1 ≤ w → (w ≢ 1 → head s.form ≤ w) → Table s (set ws w v)
-  keeps w v l h = like s ws (set ws w v) t (length-set ws w v) (λ x n m. get_or-set_other ws w x v 0 (apart x n m (ℕ_discrete w 1)))
-    where
-      apart : (x : ℕ) → x ≢ 1 → x < head s.form → Dec (w ≡ 1) → x ≢ w
-      apart x n m (yes e) = λ q. n (q ∙ e)
-      apart x n m (no k) = let y = h k in omega arith
 
   off-cell : (b : Bool) (a w v : ℕ) → w < a → (k i : ℕ) → cell_word b a k (set ws w v) i ≡ cell_word b a k ws i
   unfolding cell_word
@@ -205,12 +154,6 @@ module _ (s : Shape) (ws : List ℕ) (t : Table s ws) where
       (tab-set (holder_count s) (λ i. get_or ws (a + i) 0) (λ i. get_or us (a + i) 0) h l (λ i m n. get_or-set_other ws (a + h) (a + i) v 0 (λ q. n (omega arith)))
       ∙ ap (set (tab (holder_count s) (λ i. get_or ws (a + i) 0)) h) (get_or-set_same ws (a + h) v 0 (omega (arith, t.sized))))
       (off (a + h) v (omega arith))
-
-  pub stored-free : (v : ℕ) → Shows s (set ws 1 v) (put_free v (view s ws))
-  stored-free v = record { table = keeps 1 v (omega arith) (λ n. absurd (n refl)); is = store_free v }
-
-  pub stored-holder : (a h v : ℕ) → a ≡ head s.form → h < holder_count s → Shows s (set ws (a + h) v) (put_holder h v (view s ws))
-  stored-holder a h v e l = rw e (record { table = keeps (head s.form + h) v (omega (arith, t.low)) (λ n. omega arith); is = store_holder h v l })
 
 -- a table stands for its own view
 pub itself : {s : Shape} {ws : List ℕ} → Table s ws → Shows s ws (view s ws)

@@ -1,4 +1,4 @@
--- Words and pools of one shape stand for each other: the words of a pool show it, and a table's words are those of the pool it shows.
+-- The words of a pool show it, and every cell that words show has room in them.
 use Rattle.std.specs.Prelude.{ℕ, zero, suc, ◌+◌, ◌*◌, ◌<◌, length, get_or, ◌≡◌, Bool, true, false, List, [], ◌∷◌, ◌++◌}
 use Rattle.std.proofs.Math.ListN.{get_or-append}
 use Rattle.std.proofs.Common.{length-append, get_or-append-add, sym, ap, ap₂, ◌∙◌, arith, eqb-true}
@@ -14,10 +14,8 @@ use Rattle.table.specs.Laws.TabLaws.{tab-same, tab-get_or, get_or-tab}
 use Rattle.table.specs.Fields.{field}
 use Rattle.table.specs.Pack.{part, packed}
 use Rattle.table.specs.Laws.PackLaws.{part-packed, count_below, next-below}
-use Rattle.table.specs.View.{word_count, holder_count, start, cell_word, cell_of, view, spread, telling, words, Table, Shows}
+use Rattle.table.specs.View.{word_count, holder_count, start, cell_word, cell_of, view, spread, telling, words}
 use Rattle.table.specs.Laws.ViewLaws.{pool-path, cell-path}
-use Rattle.table.specs.Laws.FixedLaws.{view_fixes}
-use Rattle.table.specs.Laws.SizesLaws.{Fits, fits_told, fits_table, table_fits}
 
 -- what two words have room for; four have room for any cell
 abbrev pub Fit : Bool → Cell → Type 0
@@ -98,19 +96,19 @@ telling-past Wide n v h r i =
     let q : 3 + i ≡ suc (suc (suc i)) = omega arith in
     rw q refl
 
-telling-told : (f : Form) (h n v : ℕ) (r : List ℕ) → holders_fit f h ≡ true → holders_told f (n ∷ v ∷ telling f h r) ≡ h
+pub telling-told : (f : Form) (h n v : ℕ) (r : List ℕ) → holders_fit f h ≡ true → holders_told f (n ∷ v ∷ telling f h r) ≡ h
 telling-told Four h n v r e = sym (eqb-true h holders_most e)
 telling-told Packed h n v r e = sym (eqb-true h holders_most e)
 telling-told Wide h n v r e = refl
 
 module _ (s : Shape) (p : Pool) (eh : length p.holders ≡ holder_count s) (ec : length p.cells ≡ s.cells) where
-  abbrev rest : List ℕ
+  abbrev pub rest : List ℕ
   rest = p.holders ++ spread (packs s.form) p.cells
 
-  abbrev ws : List ℕ
+  abbrev pub ws : List ℕ
   ws = s.cells ∷ p.free ∷ telling s.form s.holders rest
 
-  words-length : length ws ≡ word_count s
+  pub words-length : length ws ≡ word_count s
   words-length =
       let a : length rest ≡ length p.holders + length (spread (packs s.form) p.cells) = length-append p.holders (spread (packs s.form) p.cells) in
       let b : length (spread (packs s.form) p.cells) ≡ cells_in (packs s.form) s.cells = spread-length (packs s.form) p.cells ∙ ap (cells_in (packs s.form)) ec in
@@ -145,28 +143,12 @@ module _ (s : Shape) (p : Pool) (eh : length p.holders ≡ holder_count s) (ec :
     unfolding view words
     view-words = pool-path refl holders_back cells_back
 
-  pub words_table : {k : ℕ} → Fits s k → Table s (words s p)
-  unfolding words
-  words_table f =
-      let g : Fits s (length ws) = record { some = f.some; few = f.few; held = f.held; long = words-length } in
-      fits_table s ws g refl (telling-told s.form s.holders s.cells p.free rest f.held)
-
 -- every cell that words show has room in them
 shown_fits : (b : Bool) (a : ℕ) (ws : List ℕ) (i : ℕ) → Fit b (cell_of b a ws i)
 unfolding cell_of cell_word
 shown_fits false a ws i = λ e. absurd (false≢true e)
 shown_fits true a ws i = λ e. (count_below (get_or ws (a + 2 * i) 0) (get_or ws (a + 2 * i + 1) 0), next-below (get_or ws (a + 2 * i) 0) (get_or ws (a + 2 * i + 1) 0))
 
-view_fits : (s : Shape) (ws : List ℕ) (i : ℕ) → i < s.cells → Fit (packs s.form) (get_or (view s ws).cells i blank)
+pub view_fits : (s : Shape) (ws : List ℕ) (i : ℕ) → i < s.cells → Fit (packs s.form) (get_or (view s ws).cells i blank)
 unfolding view
 view_fits s ws i l = rw (get_or-tab s.cells (cell_of (packs s.form) (start s) ws) i blank l) (shown_fits (packs s.form) (start s) ws i)
-
--- a table has the words of the pool that it shows
-pub words-view : (s : Shape) (ws : List ℕ) → Table s ws → words s (view s ws) ≡ ws
-words-view s ws t =
-    let f = fits_told s (length ws) (table_fits s ws t) in
-    view_fixes s (words s (view s ws)) ws (words_table s (view s ws) t.held t.measured f) t (view-words s (view s ws) t.held t.measured (view_fits s ws))
-
--- so what a table shows fixes every word
-pub shown-words : {s : Shape} {ws : List ℕ} {p : Pool} → Shows s ws p → ws ≡ words s p
-shown-words {s} {ws} h = sym (words-view s ws h.table) ∙ ap (words s) h.is

@@ -3,7 +3,7 @@ use mathlib.Core.Path.{sym, ap, subst, ◌∙◌}
 use Rattle.table.specs.declared.Form.TheVariants.{Four}
 use Rattle.table.specs.declared.Shape.{Shape}
 use Rattle.table.specs.View.{Table}
-use Rattle.table.specs.Laws.SizesLaws.{cells_table}
+use Rattle.table.proofs.SizesLaws.{cells_table}
 use Rattle.answering.specs.Laws.FreeLaws.{none_free, some_free}
 use Rattle.answering.proofs.free.free_cells.Goals as goal
 
