@@ -1,6 +1,5 @@
 -- `sound::chain_holds` meets its contract.
 use mathlib.Core.Path.{◌≡◌}
-use Prim.Native.Nat.{◌-◌}
 use Rattle.pool.specs.Check.{chained}
 use Rattle.table.specs.View.{view}
 use Rattle.sound.proofs.chain_holds.Given as goal

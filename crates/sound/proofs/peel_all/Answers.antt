@@ -1,5 +1,4 @@
 use mathlib.Core.Path.{◌∙◌}
-use Prim.Native.Nat.{◌-◌}
 use native.Mathlib.Omega.{arith}
 use Rattle.table.specs.View.{view}
 use Rattle.sound.specs.Laws.PeelLaws.{start-room, peel_start, taking, less-left, peel_step, peel_end}
