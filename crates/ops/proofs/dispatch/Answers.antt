@@ -4,7 +4,7 @@ use mathlib.Core.Path.{◌≡◌, ap}
 use mathlib.Core.Bool.{true}
 use Rattle.pool.specs.Script.{uses_b, Operation}
 use Rattle.ops.specs.Replies.{operation}
-use Rattle.ops.specs.Laws.WordLaws.{OnOne, OnTwo, on_one, on-two, code_range, above, just}
+use Rattle.ops.specs.Laws.WordLaws.{OnOne, OnTwo, on_one, on-two, code_range}
 use Rattle.ops.proofs.dispatch.Goals.{Start}
 use Rattle.ops.proofs.dispatch.Goals as goal
 
