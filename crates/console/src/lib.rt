@@ -10,10 +10,10 @@ ghost use Rattle.console.specs.Standing.{start, mid, Standing, Stepped, Served};
 
 use answering::answer::answer;
 use entry::Work;
-use libc::{STDERR_FILENO, STDOUT_FILENO};
 use lines::gather::{Gathered, Line, gather};
 use lines::printed::Reply;
 use records::Record;
+use std::io::{Read, Write};
 use table::{Cell, Shape};
 
 // The place in the chunk; of the line, its bytes so far and whether there were too many; the words of the table in use;
@@ -98,27 +98,30 @@ pub fn finish(line: &[u8], table: &mut [u32], work: &mut [u32], out: &mut [u8], 
 }
 
 // More bytes; none at the end of input, and where reading fails.
-fn read(fd: i32, chunk: &mut [u8]) -> usize
+fn read<E: Eprint, R: Read>(rt: &E, input: &mut R, chunk: &mut [u8]) -> usize
     ensures { result ≤ length chunk.new }
 {
-    let got = libc::read(fd, chunk);
-    if got < 0 {
-        io::write_all(STDERR_FILENO, b"session: reading failed\n");
-        return 0;
+    match input.read(chunk) {
+        Ok(n) => n,
+        Err(_) => {
+            let _ = eprintln!(rt; "session: reading failed");
+            0
+        }
     }
-    io::count(got, chunk)
 }
 
-fn write(out: &[u8], n: usize)
+fn write<E: Eprint, W: Write>(rt: &E, output: &mut W, out: &[u8], n: usize)
     requires { n ≤ length out.now }
 {
-    if !io::write_all(STDOUT_FILENO, &out[0..n]) {
-        io::write_all(STDERR_FILENO, b"session: writing failed\n");
+    if output.write_all(&out[0..n]).is_err() {
+        let _ = eprintln!(rt; "session: writing failed");
     }
 }
 
 // A whole chunk, step by step; what each prints is written.
-fn serve(
+fn serve<E: Eprint, W: Write>(
+    rt: &E,
+    output: &mut W,
     chunk: &[u8],
     line: &mut [u8],
     table: &mut [u32],
@@ -141,13 +144,15 @@ fn serve(
     };
     while s.at < n {
         s = step(chunk, line, table, work, out, s);
-        write(out, s.wrote);
+        write(rt, output, out, s.wrote);
     }
     s
 }
 
-fn run(
-    fd: i32,
+fn run<E: Eprint, R: Read, W: Write>(
+    rt: &E,
+    input: &mut R,
+    output: &mut W,
     chunk: &mut [u8],
     line: &mut [u8],
     table: &mut [u32],
@@ -160,23 +165,26 @@ fn run(
     // every loop must end: this one after more reads than a machine lives to make
     let mut reads = u64::MAX;
     while reads > 0 {
-        let n = read(fd, chunk);
+        let n = read(rt, input, chunk);
         if n == 0 {
             let last = finish(line, table, work, out, s);
-            write(out, last);
+            write(rt, output, out, last);
             return;
         }
-        s = serve(&chunk[0..n], line, table, work, out, s);
+        s = serve(rt, output, &chunk[0..n], line, table, work, out, s);
         reads -= 1;
     }
 }
 
-// The session on a file that is open for reading. What a table holds before a NEW is not looked at.
-pub fn session(fd: i32) {
+// The session on a reader and a writer; a failure of either is told on the runtime's standard error. What a table holds
+// before a NEW is not looked at.
+pub fn session<E: Eprint, R: Read, W: Write>(rt: &E, input: &mut R, output: &mut W) {
     let mut chunk = [0u8; 65536];
     let mut line = [0u8; Line::MOST];
     let mut table = [0u32; Shape::WORDS_MOST];
     let mut work = [0u32; Work::WORDS * Cell::MOST];
     let mut out = [0u8; PRINTED];
-    run(fd, &mut chunk, &mut line, &mut table, &mut work, &mut out);
+    run(
+        rt, input, output, &mut chunk, &mut line, &mut table, &mut work, &mut out,
+    );
 }

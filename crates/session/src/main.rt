@@ -2,6 +2,6 @@
 
 #![tactic(auto)]
 
-fn main() {
-    console::session(0);
+fn main(rt: HostRuntime) {
+    console::session(&rt, &mut rt.stdin(), &mut rt.stdout());
 }

@@ -2,32 +2,37 @@
 
 #![tactic(auto)]
 
-fn one(name: &[u8]) {
-    let fd = os::open_read(name);
-    if fd < 0 {
-        os::fail(name);
-        return;
+use std::fs::File;
+use std::io::Write;
+
+fn one(rt: HostRuntime, name: &str) {
+    match File::open(&rt, name) {
+        Ok(mut file) => {
+            let mut out = rt.stdout();
+            console::session(&rt, &mut file, &mut out);
+            let _ = out.write_all(b"--\n");
+        }
+        Err(e) => {
+            let _ = eprintln!(rt; "{name}: {e}");
+        }
     }
-    console::session(fd);
-    libc::close(fd);
-    io::write_all(libc::STDOUT_FILENO, b"--\n");
 }
 
-fn main() {
-    one(b"before_new");
-    one(b"malformed");
-    one(b"numbers");
-    one(b"long_lines");
-    one(b"refusals");
-    one(b"easy_to_get_wrong");
-    one(b"full_and_empty");
-    one(b"new_again");
-    one(b"read");
-    one(b"written");
-    one(b"deep");
-    one(b"too_long");
-    one(b"empty");
-    one(b"no_last_line_feed");
-    one(b"ends_in_a_long_line");
-    one(b"line_feeds_only");
+fn main(rt: HostRuntime) {
+    one(rt, "before_new");
+    one(rt, "malformed");
+    one(rt, "numbers");
+    one(rt, "long_lines");
+    one(rt, "refusals");
+    one(rt, "easy_to_get_wrong");
+    one(rt, "full_and_empty");
+    one(rt, "new_again");
+    one(rt, "read");
+    one(rt, "written");
+    one(rt, "deep");
+    one(rt, "too_long");
+    one(rt, "empty");
+    one(rt, "no_last_line_feed");
+    one(rt, "ends_in_a_long_line");
+    one(rt, "line_feeds_only");
 }

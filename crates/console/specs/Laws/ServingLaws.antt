@@ -1,12 +1,12 @@
--- Steps one after another are one step over all their bytes, since lines that are whole do not change how later bytes are split; the end closes it.
+-- Steps one after another are one step over all their bytes, since lines that are whole do not change how later bytes are split.
 use Rattle.std.specs.Prelude.{◌≡◌, refl, List, [], ◌∷◌, ◌++◌, ℕ}
 use Rattle.std.proofs.Common.{sym, ap, ap₂, ◌∙◌, append_assoc, append-nil}
-use Rattle.lines.specs.Splitting.{Line, Gathering, last, eaten, closed}
-use Rattle.lines.specs.Laws.SplittingLaws.{behind, eaten-append, eaten-behind, split_lines}
-use Rattle.answering.specs.Session.{answered, prints, session}
-use Rattle.console.specs.Serving.{Mid, fresh, leaves, Takes, closing, Step, Steps, input, output, stop}
+use Rattle.lines.specs.Splitting.{Line, Gathering, eaten}
+use Rattle.lines.specs.Laws.SplittingLaws.{behind, eaten-append, eaten-behind}
+use Rattle.answering.specs.Session.{answered, prints}
+use Rattle.console.specs.Serving.{Mid, leaves, Takes, Step, Steps, input, output, stop}
 
-prints-append : (a b : List Line) (ts : List ℕ) → prints ts (a ++ b) ≡ prints ts a ++ prints (leaves ts a) b
+pub prints-append : (a b : List Line) (ts : List ℕ) → prints ts (a ++ b) ≡ prints ts a ++ prints (leaves ts a) b
 unfolding prints leaves
 prints-append [] b ts = refl
 prints-append (l ∷ a) b ts =
@@ -37,17 +37,7 @@ takes_then m n k a b o p f g = record {
       ∙ sym (prints-append f.lines g.lines m.words);
 }
 
-steps-take : (ss : List Step) (m : Mid) → Steps m ss → Takes m (input ss) (output ss) (stop m ss)
+pub steps-take : (ss : List Step) (m : Mid) → Steps m ss → Takes m (input ss) (output ss) (stop m ss)
 unfolding input output stop
 steps-take [] m h = takes_none m
 steps-take (s ∷ ss) m h = takes_then m s.next (stop s.next ss) s.taken (input ss) s.out (output ss) h.0 (steps-take ss s.next h.1)
-
-closes : (s o : List ℕ) (n : Mid) → Takes fresh s o n → o ++ closing n ≡ session s
-closes s o n t =
-    ap₂ ◌++◌ t.printed (ap (λ (w : List ℕ). prints w (last n.kept n.over)) t.words)
-    ∙ sym (prints-append t.lines (last n.kept n.over) [])
-    ∙ ap (λ (g : Gathering). prints [] (closed g)) (sym t.split)
-    ∙ ap (prints []) (split_lines s)
-
-pub steps_close : (ss : List Step) → Steps fresh ss → output ss ++ closing (stop fresh ss) ≡ session (input ss)
-steps_close ss h = closes (input ss) (output ss) (stop fresh ss) (steps-take ss fresh h)

@@ -1,18 +1,18 @@
 -- What gathering and answering leave, joined to steps, and steps joined along a chunk.
-use Rattle.std.specs.Prelude.{◌≡◌, ◌≢◌, Bool, true, List, [], ◌∷◌, ◌++◌, ℕ, ◌+◌, ◌-◌, ◌≤◌, ◌<◌, length, drop}
+use Rattle.std.specs.Prelude.{◌≡◌, true, List, [], ◌∷◌, ◌++◌, ℕ, ◌+◌, ◌-◌, ◌≤◌, ◌<◌, length, drop}
 use Rattle.std.proofs.Math.Path.{refl, sym}
-use Rattle.std.proofs.Common.{ap, ◌∙◌, append-nil, arith, length-take-le, take-add, take_all}
+use Rattle.std.proofs.Common.{ap, ◌∙◌, append-nil, arith, take-add, take_all}
 use Rattle.std.proofs.Math.Bool.{false}
 use Rattle.std.proofs.Math.ListN.{take}
-use Rattle.lines.specs.Splitting.{Line, Gathering, ready, eaten, last}
+use Rattle.lines.specs.Splitting.{Line, ready}
 use Rattle.lines.specs.Meaning.{Gathers, stands}
 use Rattle.lines.specs.declared.gather.Gathered.{Gathered}
 use Rattle.lines.specs.Laws.GatherLaws.{gathered, gathers_some}
 use Rattle.answering.specs.declared.answer.Answered.{Answered}
 use Rattle.answering.specs.Session.{answered, prints}
-use Rattle.answering.specs.Kept.{Prints, Speaks}
+use Rattle.answering.specs.Kept.{Speaks}
 use Rattle.console.specs.declared.State.{State}
-use Rattle.console.specs.Serving.{Mid, leaves, Takes, closing}
+use Rattle.console.specs.Serving.{Mid, leaves}
 use Rattle.console.specs.Standing.{mid, Standing, Stepped, Served}
 use Rattle.console.specs.Laws.ServingLaws.{takes_none, takes_then}
 
@@ -51,28 +51,6 @@ module _ (s : State) (chunk line ts new : List ℕ) (g : Gathered) (h : Gathers 
         used = k.fits;
         wrote = k.printed.fits;
       }
-
--- the end of input, with nothing left or with a last line
-pub closes_none : (s : State) (line ts out : List ℕ) → s.len ≡ 0 → Prints (closing (mid s line ts)) 0 out
-unfolding prints
-closes_none s line ts out e = rw e record { bytes = refl; fits = omega arith }
-
-last_some : (ks : List ℕ) (o : Bool) → length ks ≢ 0 → last ks o ≡ ready ks o ∷ []
-last_some [] o n = absurd (n refl)
-last_some (c ∷ ks) o n = refl
-
-pub closes_line : (s : State) (line ts us out : List ℕ) (a : Answered) → s.len ≢ 0 → s.len ≤ length line
-    → Speaks (answered (take s.used ts) (ready (take s.len line) s.over)) a us out
-    → Prints (closing (mid s line ts)) a.count out
-unfolding prints
-closes_line s line ts us out a n l k =
-    let m : length (take s.len line) ≢ 0 = λ e. n (sym (length-take-le s.len line l) ∙ e) in
-    record {
-      bytes = k.printed.bytes
-          ∙ sym (append-nil (answered (take s.used ts) (ready (take s.len line) s.over)).printed)
-          ∙ ap (prints (take s.used ts)) (sym (last_some (take s.len line) s.over m));
-      fits = k.printed.fits;
-    }
 
 -- along a chunk
 pub served_none : (m : Mid) (chunk : List ℕ) → Served m (take 0 chunk) m
