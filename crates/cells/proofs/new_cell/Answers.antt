@@ -8,7 +8,10 @@ use Rattle.cells.proofs.new_cell.Goals as goal
 
 pub set_free-requires : goal.set_free-requires
 set_free-requires c =
-    record { table = c.requires.table; v_le_cells = rw (c.next_of-rest.ensures.0, c.free_head-x.ensures.0) c.requires.spare.next }
+    record {
+      table = c.requires.table;
+      v_le_cells = rw (c.next_of-rest.ensures.0, c.free_head-x.ensures.0) c.requires.spare.next;
+    }
 
 pub returns : goal.returns
 returns c =

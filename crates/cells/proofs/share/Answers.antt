@@ -13,7 +13,11 @@ use Rattle.cells.proofs.share.Goals as goal
 
 pub set_count-requires : goal.set_count-requires
 set_count-requires c =
-    record { table = c.requires.table; cell = record { low = pos_of_ne-zero c.if-x-ne0.true; high = c.requires.x_le_cells }; v_bound = omega (arith, c.requires.x_bound c.if-x-ne0.true) }
+    record {
+      table = c.requires.table;
+      cell = record { low = pos_of_ne-zero c.if-x-ne0.true; high = c.requires.x_le_cells };
+      v_bound = omega (arith, c.requires.x_bound c.if-x-ne0.true);
+    }
 
 pub returns-then-x-ne0 : goal.returns-then-x-ne0
 returns-then-x-ne0 c =

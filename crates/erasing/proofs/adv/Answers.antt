@@ -19,11 +19,19 @@ count c =
 
 pub count_of-requires : goal.count_of-requires
 count_of-requires c =
-    record { table = c.requires.table; cell = rw c.holder_of-x.ensures.0 (holder-head _ _ c.requires.table c.requires.sound _ c.requires.b_value.1).cell }
+    record {
+      table = c.requires.table;
+      cell = rw c.holder_of-x.ensures.0 (holder-head _ _ c.requires.table c.requires.sound _ c.requires.b_value.1).cell;
+    }
 
 pub decap-requires : goal.decap-requires
 decap-requires c =
-    record { table = c.requires.table; a_bound = c.requires.a_bound; sound = c.requires.sound; b_value = (c.requires.b_value.0, count (goal.at.decap-requires c).After-count_of ∙ c.if-count_of-eq1.true) }
+    record {
+      table = c.requires.table;
+      a_bound = c.requires.a_bound;
+      sound = c.requires.sound;
+      b_value = (c.requires.b_value.0, count (goal.at.decap-requires c).After-count_of ∙ c.if-count_of-eq1.true);
+    }
 
 pub returns-then-count_of-eq1 : goal.returns-then-count_of-eq1
 returns-then-count_of-eq1 c =
@@ -35,4 +43,9 @@ returns-then-count_of-eq1 c =
 pub step_off-requires : goal.step_off-requires
 step_off-requires c =
     let l = holder_live _ c.args.a c.requires.sound c.requires.b_value.1 in
-    record { table = c.requires.table; a_bound = c.requires.a_bound; sound = c.requires.sound; b_value = (c.requires.b_value.0, omega (arith, l, count (goal.at.step_off-requires c).After-count_of, c.if-count_of-eq1.false)) }
+    record {
+      table = c.requires.table;
+      a_bound = c.requires.a_bound;
+      sound = c.requires.sound;
+      b_value = (c.requires.b_value.0, omega (arith, l, count (goal.at.step_off-requires c).After-count_of, c.if-count_of-eq1.false));
+    }

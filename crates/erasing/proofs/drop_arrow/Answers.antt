@@ -21,7 +21,11 @@ returns-then-n-ne0 c =
 
 pub release-requires : goal.release-requires
 release-requires c =
-    let k = c.set_count.ensures in record { table = k.table; cell = record { low = c.requires.le_here; high = omega arith }; t_bound = rw (ap (λ (p : Pool). p.free) k.is) (omega arith) }
+    let k = c.set_count.ensures in record {
+      table = k.table;
+      cell = record { low = c.requires.le_here; high = omega arith };
+      t_bound = rw (ap (λ (p : Pool). p.free) k.is) (omega arith);
+    }
 
 pub returns-then-kind-eq0 : goal.returns-then-kind-eq0
 returns-then-kind-eq0 c =

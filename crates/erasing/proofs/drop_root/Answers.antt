@@ -38,7 +38,11 @@ pop_waiting-e-requires c =
     let f = c.follow-e.ensures in
     let g = f.later.on _ _ i.2 in
     let n = c.if-e-eq0.false in
-    record { table = f.table; fine = before halted stepped _ g (halted_wait _ f.end n); here_value = (f.end, pos_of_ne-zero n) }
+    record {
+      table = f.table;
+      fine = before halted stepped _ g (halted_wait _ f.end n);
+      here_value = (f.end, pos_of_ne-zero n);
+    }
 
 pub loop-e-smaller : goal.loop-e-smaller
 loop-e-smaller c =

@@ -12,7 +12,10 @@ use Rattle.erasing.proofs.erase.Goals as goal
 
 pub drop_root-n-requires : goal.drop_root-n-requires
 drop_root-n-requires c =
-    record { table = c.requires.table; rooted = rw c.holder_of-x.ensures.0 (holder_rooted (greatest_count c.args.s) _ _ c.requires.sound (omega arith) (omega arith)) }
+    record {
+      table = c.requires.table;
+      rooted = rw c.holder_of-x.ensures.0 (holder_rooted (greatest_count c.args.s) _ _ c.requires.sound (omega arith) (omega arith));
+    }
 
 pub returns : goal.returns
 returns c =

@@ -19,7 +19,11 @@ pub loop-e-init : goal.loop-e-init
 loop-e-init c = (c.requires.table, refl, at-start)
 
 pub drop_arrow-e-requires : goal.drop_arrow-e-requires
-drop_arrow-e-requires c = record { table = c.loop-e.invariant.0; fine = fine (goal.at.drop_arrow-e-requires c).In-loop-e; le_here = pos_of_ne-zero c.loop-e-test.true }
+drop_arrow-e-requires c = record {
+  table = c.loop-e.invariant.0;
+  fine = fine (goal.at.drop_arrow-e-requires c).In-loop-e;
+  le_here = pos_of_ne-zero c.loop-e-test.true;
+}
 
 pub loop-e-smaller : goal.loop-e-smaller
 loop-e-smaller c =

@@ -37,7 +37,11 @@ overflow_sub-n c =
 
 pub share-requires : goal.share-requires
 share-requires c =
-    record { table = c.requires.table; x_le_cells = rw c.item_of-e.ensures (head (goal.at.share-requires c).After-holder_of-x).item; x_bound = count_high _ _ c.requires.table c.requires.sound _ _ c.requires.a_bound.1 c.requires.b_value.0 }
+    record {
+      table = c.requires.table;
+      x_le_cells = rw c.item_of-e.ensures (head (goal.at.share-requires c).After-holder_of-x).item;
+      x_bound = count_high _ _ c.requires.table c.requires.sound _ _ c.requires.a_bound.1 c.requires.b_value.0;
+    }
 
 pub share-requires-2 : goal.share-requires-2
 share-requires-2 c =
@@ -56,15 +60,27 @@ share-requires-2 c =
 pub set_count-requires : goal.set_count-requires
 set_count-requires c =
     let a = c.args in
-    let p = view a.s a.t.now in record { table = c.share-2.ensures.table; cell = (head (goal.at.set_count-requires c).After-holder_of-x).cell; v_bound = omega (arith, count_bound p c.requires.sound c.holder_of-x.result) }
+    let p = view a.s a.t.now in record {
+      table = c.share-2.ensures.table;
+      cell = (head (goal.at.set_count-requires c).After-holder_of-x).cell;
+      v_bound = omega (arith, count_bound p c.requires.sound c.holder_of-x.result);
+    }
 
 pub set_holder-requires : goal.set_holder-requires
 set_holder-requires c =
-    record { table = c.set_count.ensures.table; h_bound = c.requires.a_bound.0; v_le_cells = rw c.next_of-next.ensures.0 (head (goal.at.set_holder-requires c).After-holder_of-x).next }
+    record {
+      table = c.set_count.ensures.table;
+      h_bound = c.requires.a_bound.0;
+      v_le_cells = rw c.next_of-next.ensures.0 (head (goal.at.set_holder-requires c).After-holder_of-x).next;
+    }
 
 pub set_holder-requires-2 : goal.set_holder-requires-2
 set_holder-requires-2 c =
-    record { table = c.set_holder.ensures.table; h_bound = c.requires.a_bound.1; v_le_cells = rw c.item_of-e.ensures (head (goal.at.set_holder-requires-2 c).After-holder_of-x).item }
+    record {
+      table = c.set_holder.ensures.table;
+      h_bound = c.requires.a_bound.1;
+      v_le_cells = rw c.item_of-e.ensures (head (goal.at.set_holder-requires-2 c).After-holder_of-x).item;
+    }
 
 pub returns : goal.returns
 returns c =

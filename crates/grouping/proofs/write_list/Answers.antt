@@ -32,7 +32,12 @@ returns-then-m-ne-DONE c =
 
 pub put-requires : goal.put-requires
 put-requires c =
-    record { table = c.requires.table; stands = c.requires.stands; writable = (fits (goal.at.put-requires c).Else-m-ne-DONE).0; n_value = c.measure-m.ensures.elements c.if-m-ne-DONE.false }
+    record {
+      table = c.requires.table;
+      stands = c.requires.stands;
+      writable = (fits (goal.at.put-requires c).Else-m-ne-DONE).0;
+      n_value = c.measure-m.ensures.elements c.if-m-ne-DONE.false;
+    }
 
 pub overflow_cast-m : goal.overflow_cast-m
 overflow_cast-m c = omega (arith, (fits (goal.at.overflow_cast-m c).Else-m-ne-DONE).1)

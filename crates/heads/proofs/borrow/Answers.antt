@@ -7,11 +7,19 @@ use Rattle.heads.proofs.borrow.Goals as goal
 
 pub share-requires : goal.share-requires
 share-requires c =
-    record { table = c.requires.table; x_le_cells = rw c.holder_of-x.ensures.0 (holder_high _ _ c.requires.table c.requires.sound _); x_bound = count_high _ _ c.requires.table c.requires.sound _ _ c.requires.a_bound.1 c.requires.b_value }
+    record {
+      table = c.requires.table;
+      x_le_cells = rw c.holder_of-x.ensures.0 (holder_high _ _ c.requires.table c.requires.sound _);
+      x_bound = count_high _ _ c.requires.table c.requires.sound _ _ c.requires.a_bound.1 c.requires.b_value;
+    }
 
 pub set_holder-requires : goal.set_holder-requires
 set_holder-requires c =
-    record { table = c.share.ensures.table; h_bound = c.requires.a_bound.1; v_le_cells = rw c.holder_of-x.ensures.0 (holder_high _ _ c.requires.table c.requires.sound _) }
+    record {
+      table = c.share.ensures.table;
+      h_bound = c.requires.a_bound.1;
+      v_le_cells = rw c.holder_of-x.ensures.0 (holder_high _ _ c.requires.table c.requires.sound _);
+    }
 
 pub returns : goal.returns
 returns c =

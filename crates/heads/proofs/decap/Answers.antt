@@ -26,19 +26,35 @@ item_of-e-requires c =
 
 pub set_count-requires : goal.set_count-requires
 set_count-requires c =
-    record { table = c.requires.table; cell = (head (goal.at.set_count-requires c).After-holder_of-x).cell; v_bound = omega arith }
+    record {
+      table = c.requires.table;
+      cell = (head (goal.at.set_count-requires c).After-holder_of-x).cell;
+      v_bound = omega arith;
+    }
 
 pub release-requires : goal.release-requires
 release-requires c =
-    record { table = c.set_count.ensures.table; cell = (head (goal.at.release-requires c).After-holder_of-x).cell; t_bound = rw (ap (λ (p : Pool). p.free) c.set_count.ensures.is) (omega (arith, (ranged _ c.requires.sound).free_top)) }
+    record {
+      table = c.set_count.ensures.table;
+      cell = (head (goal.at.release-requires c).After-holder_of-x).cell;
+      t_bound = rw (ap (λ (p : Pool). p.free) c.set_count.ensures.is) (omega (arith, (ranged _ c.requires.sound).free_top));
+    }
 
 pub set_holder-requires : goal.set_holder-requires
 set_holder-requires c =
-    record { table = c.release.ensures.table; h_bound = c.requires.a_bound.0; v_le_cells = rw c.next_of-next.ensures.0 (head (goal.at.set_holder-requires c).After-holder_of-x).next }
+    record {
+      table = c.release.ensures.table;
+      h_bound = c.requires.a_bound.0;
+      v_le_cells = rw c.next_of-next.ensures.0 (head (goal.at.set_holder-requires c).After-holder_of-x).next;
+    }
 
 pub set_holder-requires-2 : goal.set_holder-requires-2
 set_holder-requires-2 c =
-    record { table = c.set_holder.ensures.table; h_bound = c.requires.a_bound.1; v_le_cells = rw c.item_of-e.ensures (head (goal.at.set_holder-requires-2 c).After-holder_of-x).item }
+    record {
+      table = c.set_holder.ensures.table;
+      h_bound = c.requires.a_bound.1;
+      v_le_cells = rw c.item_of-e.ensures (head (goal.at.set_holder-requires-2 c).After-holder_of-x).item;
+    }
 
 pub returns : goal.returns
 returns c =

@@ -8,11 +8,19 @@ use Rattle.heads.proofs.pfl.Goals as goal
 
 pub new_cell-x-requires : goal.new_cell-x-requires
 new_cell-x-requires c =
-    record { table = c.requires.table; spare = spare _ _ c.requires.table c.requires.sound c.requires.t_nonzero; kind_bound = (omega arith, rw c.holder_of-old.ensures.0 (holder_high _ _ c.requires.table c.requires.sound _)) }
+    record {
+      table = c.requires.table;
+      spare = spare _ _ c.requires.table c.requires.sound c.requires.t_nonzero;
+      kind_bound = (omega arith, rw c.holder_of-old.ensures.0 (holder_high _ _ c.requires.table c.requires.sound _));
+    }
 
 pub set_holder-requires : goal.set_holder-requires
 set_holder-requires c =
-    record { table = c.new_cell-x.ensures.1.table; h_bound = c.requires.a_bound.0; v_le_cells = rw c.new_cell-x.ensures.0 (spare _ _ c.requires.table c.requires.sound c.requires.t_nonzero).cell.high }
+    record {
+      table = c.new_cell-x.ensures.1.table;
+      h_bound = c.requires.a_bound.0;
+      v_le_cells = rw c.new_cell-x.ensures.0 (spare _ _ c.requires.table c.requires.sound c.requires.t_nonzero).cell.high;
+    }
 
 pub returns : goal.returns
 returns c =

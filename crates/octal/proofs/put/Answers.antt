@@ -7,7 +7,10 @@ use Rattle.octal.proofs.put.Goals as goal
 pub few-n-requires : goal.few-n-requires
 few-n-requires c =
     let a = c.args in
-    record { v_bound = omega arith; v_in_bounds = omega (arith, more-size 4 a.v (a.v / 4096) (four-more a.v (omega arith) c.if-v-lt-FOUR.false)) }
+    record {
+      v_bound = omega arith;
+      v_in_bounds = omega (arith, more-size 4 a.v (a.v / 4096) (four-more a.v (omega arith) c.if-v-lt-FOUR.false));
+    }
 
 pub overflow_add-at : goal.overflow_add-at
 overflow_add-at c =
@@ -29,12 +32,18 @@ returns-then-v-lt-EIGHT c =
     let a = c.args in
     let all = four-more a.v (omega arith) c.if-v-lt-FOUR.false in
     let size = more-size 4 a.v (a.v / 4096) all in
-    record { value = omega (arith, size, c.few-n.ensures.value); out_after = all-put a.out.now a.at (omega (arith, size)) 4 a.v (a.v / 4096) c.few-n.result all c.few-n.ensures.value c.few-n.ensures.out_after c.four.ensures }
+    record {
+      value = omega (arith, size, c.few-n.ensures.value);
+      out_after = all-put a.out.now a.at (omega (arith, size)) 4 a.v (a.v / 4096) c.few-n.result all c.few-n.ensures.value c.few-n.ensures.out_after c.four.ensures;
+    }
 
 pub few-n-requires-2 : goal.few-n-requires-2
 few-n-requires-2 c =
     let a = c.args in
-    record { v_bound = omega arith; v_in_bounds = omega (arith, more-size 8 a.v (a.v / 16777216) (eight_more a.v (omega arith) c.if-v-lt-EIGHT.false)) }
+    record {
+      v_bound = omega arith;
+      v_in_bounds = omega (arith, more-size 8 a.v (a.v / 16777216) (eight_more a.v (omega arith) c.if-v-lt-EIGHT.false));
+    }
 
 pub overflow_add-at-2 : goal.overflow_add-at-2
 overflow_add-at-2 c =
@@ -56,4 +65,7 @@ returns c =
     let a = c.args in
     let all = eight_more a.v (omega arith) c.if-v-lt-EIGHT.false in
     let size = more-size 8 a.v (a.v / 16777216) all in
-    record { value = omega (arith, size, c.few-n-2.ensures.value); out_after = all-put a.out.now a.at (omega (arith, size)) 8 a.v (a.v / 16777216) c.few-n-2.result all c.few-n-2.ensures.value c.few-n-2.ensures.out_after c.eight.ensures }
+    record {
+      value = omega (arith, size, c.few-n-2.ensures.value);
+      out_after = all-put a.out.now a.at (omega (arith, size)) 8 a.v (a.v / 16777216) c.few-n-2.result all c.few-n-2.ensures.value c.few-n-2.ensures.out_after c.eight.ensures;
+    }

@@ -24,19 +24,35 @@ pfa-requires c =
 
 pub pfl-requires : goal.pfl-requires
 pfl-requires c =
-    let q = two (goal.at.pfl-requires c).Start (ap uses_b c.in-2.is) in record { table = q.0; a_bound = q.1.0; sound = q.1.1 }
+    let q = two (goal.at.pfl-requires c).Start (ap uses_b c.in-2.is) in record {
+      table = q.0;
+      a_bound = q.1.0;
+      sound = q.1.1;
+    }
 
 pub decap-requires : goal.decap-requires
 decap-requires c =
-    let q = two (goal.at.decap-requires c).Start (ap uses_b c.in-3.is) in record { table = q.0; a_bound = q.1.0; sound = q.1.1 }
+    let q = two (goal.at.decap-requires c).Start (ap uses_b c.in-3.is) in record {
+      table = q.0;
+      a_bound = q.1.0;
+      sound = q.1.1;
+    }
 
 pub adv-requires : goal.adv-requires
 adv-requires c =
-    let q = two (goal.at.adv-requires c).Start (ap uses_b c.in-4.is) in record { table = q.0; a_bound = q.1.0; sound = q.1.1 }
+    let q = two (goal.at.adv-requires c).Start (ap uses_b c.in-4.is) in record {
+      table = q.0;
+      a_bound = q.1.0;
+      sound = q.1.1;
+    }
 
 pub borrow-requires : goal.borrow-requires
 borrow-requires c =
-    let q = two (goal.at.borrow-requires c).Start (ap uses_b c.in-5.is) in record { table = q.0; a_bound = q.1.0; sound = q.1.1 }
+    let q = two (goal.at.borrow-requires c).Start (ap uses_b c.in-5.is) in record {
+      table = q.0;
+      a_bound = q.1.0;
+      sound = q.1.1;
+    }
 
 pub erase-requires : goal.erase-requires
 erase-requires c =
@@ -48,11 +64,19 @@ inv-requires c =
 
 pub cinv-requires : goal.cinv-requires
 cinv-requires c =
-    let q = two (goal.at.cinv-requires c).Start (ap uses_b c.in-8.is) in record { table = q.0; a_bound = q.1.0; sound = q.1.1 }
+    let q = two (goal.at.cinv-requires c).Start (ap uses_b c.in-8.is) in record {
+      table = q.0;
+      a_bound = q.1.0;
+      sound = q.1.1;
+    }
 
 pub conc-requires : goal.conc-requires
 conc-requires c =
-    let q = two (goal.at.conc-requires c).Start (ap uses_b c.in-9.is) in record { table = q.0; a_bound = q.1.0; sound = q.1.1 }
+    let q = two (goal.at.conc-requires c).Start (ap uses_b c.in-9.is) in record {
+      table = q.0;
+      a_bound = q.1.0;
+      sound = q.1.1;
+    }
 
 pub first-requires : goal.first-requires
 first-requires c =

@@ -23,7 +23,11 @@ dispatch-requires c =
     let a = c.args in
     let o : Operation = operation a.code a.a a.b a.v in
     let p : Pool = view a.s a.t.now in
-    record { table = c.requires.table; sound = c.requires.sound; opened = early-passed p o (rw c.requires.table.held (sym (c.early-refusal.ensures a.v) ∙ c.if-refusal-ne-DONE.false)) }
+    record {
+      table = c.requires.table;
+      sound = c.requires.sound;
+      opened = early-passed p o (rw c.requires.table.held (sym (c.early-refusal.ensures a.v) ∙ c.if-refusal-ne-DONE.false));
+    }
 
 pub returns : goal.returns
 returns c = c.dispatch.ensures

@@ -1,4 +1,3 @@
--- A sound pool stays sound, and as large as it is, through an operation and through a script, whatever they are.
 -- What the tests of an operation have ruled out is what its own law asks.
 use Rattle.std.specs.Prelude.{◌≡◌, refl, ◌≢◌, Bool, true, false, cond, ◌&&◌, ℕ, zero, suc, ◌≤◌, ◌<◌, leb, length}
 use Rattle.std.proofs.Common.{subst, arith}

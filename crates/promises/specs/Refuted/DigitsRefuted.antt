@@ -75,13 +75,13 @@ short_at_the_largest =
     another_numeral ten_at_most (2 ^ 32 - 1) (λ e. let z : ◌≡◌ {A = ℕ} 55 51 = word 0 e in omega arith)
 
 -- (12) is written as (012)
-pub leads_with_zero_lem : WritingGives Four (writes_by zero_first) → ⊥
-leads_with_zero_lem = another_numeral zero_first 10 (λ e. let z : ◌≡◌ {A = ℕ} 48 49 = word 0 e in omega arith)
+pub zero_first_lem : WritingGives Four (writes_by zero_first) → ⊥
+zero_first_lem = another_numeral zero_first 10 (λ e. let z : ◌≡◌ {A = ℕ} 48 49 = word 0 e in omega arith)
 
 -- (07) is read, and written as it was
-pub leads_with_zero_again : ReadWritesBack (writes_by zero_first) → ⊥
+pub zero_first_again : ReadWritesBack (writes_by zero_first) → ⊥
 unfolding storing
-leads_with_zero_again d =
+zero_first_again d =
     let t : List ℕ = 40 ∷ 48 ∷ 55 ∷ 41 ∷ [] in
     let xs = t ++ blanks 68 in
     let r : Records xs 72 t = record {

@@ -8,7 +8,12 @@ use Rattle.reading.proofs.into.Goals as goal
 scans : (c : After-scan-c) →
     Scans c.args.b c.args.s c.args.t.now c.args.h c.args.bytes.now c.scan-c.result
 scans c =
-    record { table = c.requires.table; sized = c.requires.bytes_value; null = sym c.holder_of.ensures.0 ∙ c.if-holder_of-ne0.false; told = c.scan-c.ensures }
+    record {
+      table = c.requires.table;
+      sized = c.requires.bytes_value;
+      null = sym c.holder_of.ensures.0 ∙ c.if-holder_of-ne0.false;
+      told = c.scan-c.ensures;
+    }
 
 pub returns-then-holder_of-ne0 : goal.returns-then-holder_of-ne0
 returns-then-holder_of-ne0 c =
@@ -29,7 +34,13 @@ pub build-requires : goal.build-requires
 build-requires c =
     let k = scans (goal.at.build-requires c).After-scan-c in
     let well = c.if-c-ne-DONE.false in
-    record { table = c.requires.table; h_bound = c.requires.h_bound; sound = c.requires.sound; bytes_value = good k well; bytes_bound = room k well (omega (arith, c.if-c-free.false, c.requires.free_value)) }
+    record {
+      table = c.requires.table;
+      h_bound = c.requires.h_bound;
+      sound = c.requires.sound;
+      bytes_value = good k well;
+      bytes_bound = room k well (omega (arith, c.if-c-free.false, c.requires.free_value));
+    }
 
 pub returns : goal.returns
 returns c =

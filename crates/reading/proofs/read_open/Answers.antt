@@ -34,7 +34,13 @@ returns-then-not-found c =
 pub into-requires : goal.into-requires
 into-requires c =
     let found = c.examine-found.ensures in
-    record { table = c.requires.table; h_bound = held (goal.at.into-requires c).Else-a-holders; sound = found.decided.sound.0 (not-false _ c.if-not-found.false); free_value = found.free; bytes_value = sized (goal.at.into-requires c).Else-fault-ne-DONE }
+    record {
+      table = c.requires.table;
+      h_bound = held (goal.at.into-requires c).Else-a-holders;
+      sound = found.decided.sound.0 (not-false _ c.if-not-found.false);
+      free_value = found.free;
+      bytes_value = sized (goal.at.into-requires c).Else-fault-ne-DONE;
+    }
 
 pub returns : goal.returns
 returns c =

@@ -15,7 +15,11 @@ pub loop-i-init : goal.loop-i-init
 loop-i-init c = (begun c.args.s c.args.script.now c.args.results.now c.args.table.now c.requires.table c.requires.sound, omega arith)
 
 pub perform_at-reply-requires : goal.perform_at-reply-requires
-perform_at-reply-requires c = record { table = c.loop-i.invariant.0.table; sound = c.loop-i.invariant.0.sound; operation_words_in_bounds = (room (goal.at.perform_at-reply-requires c).In-loop-i).0 }
+perform_at-reply-requires c = record {
+  table = c.loop-i.invariant.0.table;
+  sound = c.loop-i.invariant.0.sound;
+  operation_words_in_bounds = (room (goal.at.perform_at-reply-requires c).In-loop-i).0;
+}
 
 pub overflow_cast-i : goal.overflow_cast-i
 overflow_cast-i c =

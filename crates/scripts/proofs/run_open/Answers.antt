@@ -22,7 +22,11 @@ returns-then-not-is_sound c =
 
 pub perform_all-requires : goal.perform_all-requires
 perform_all-requires c =
-    record { table = c.requires.table; sound = c.is_sound.ensures.sound.0 (c.if-not-is_sound.false); sized = sizes _ _ (fault (goal.at.perform_all-requires c).Else-fault-ne-DONE) }
+    record {
+      table = c.requires.table;
+      sound = c.is_sound.ensures.sound.0 (c.if-not-is_sound.false);
+      sized = sizes _ _ (fault (goal.at.perform_all-requires c).Else-fault-ne-DONE);
+    }
 
 pub returns : goal.returns
 returns c =

@@ -23,7 +23,10 @@ loop-e-init c =
 pub take_cell-e-requires : goal.take_cell-e-requires
 take_cell-e-requires c =
     let t = c.requires.table in
-    record { table = t; taking = taking _ _ _ _ _ t.measured (omega arith) (omega arith) c.loop-e.invariant c.loop-e-test.true }
+    record {
+      table = t;
+      taking = taking _ _ _ _ _ t.measured (omega arith) (omega arith) c.loop-e.invariant c.loop-e-test.true;
+    }
 
 pub loop-e-smaller : goal.loop-e-smaller
 loop-e-smaller c =

@@ -8,7 +8,10 @@ use Rattle.table.proofs.get.Goals as goal
 pub get_two-requires : goal.get_two-requires
 get_two-requires c =
     let packs = sym c.packs.ensures ∙ c.if-packs.true in
-    record { i_in_bounds = omega (arith, in_two _ _ c.requires.table _ c.requires.cell packs, c.start.ensures.0); k_bound = c.requires.k_bound }
+    record {
+      i_in_bounds = omega (arith, in_two _ _ c.requires.table _ c.requires.cell packs, c.start.ensures.0);
+      k_bound = c.requires.k_bound;
+    }
 
 pub returns-then-packs : goal.returns-then-packs
 returns-then-packs c =

@@ -8,7 +8,10 @@ use Rattle.table.proofs.put_word.Goals as goal
 pub put_two-requires : goal.put_two-requires
 put_two-requires c =
     let packs = sym c.packs.ensures ∙ c.if-packs.true in
-    record { i_in_bounds = omega (arith, in_two _ _ c.requires.table _ c.requires.cell packs, c.start.ensures.0); k_bound = c.requires.k_bound }
+    record {
+      i_in_bounds = omega (arith, in_two _ _ c.requires.table _ c.requires.cell packs, c.start.ensures.0);
+      k_bound = c.requires.k_bound;
+    }
 
 pub put_four-requires : goal.put_four-requires
 put_four-requires c =

@@ -1,4 +1,4 @@
--- Words of the right size are a table, and which words are not.
+-- Which sizes are right, and what words of a right size tell.
 use Rattle.table.specs.declared.Form.{Form}
 use Rattle.table.specs.declared.Form.TheVariants.{Four, Packed, Wide}
 use Rattle.table.specs.declared.Shape.{Shape}

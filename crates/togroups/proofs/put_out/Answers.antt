@@ -1,7 +1,6 @@
 -- `togroups::put_out` meets its contract.
-use mathlib.Core.Bool.{not}
+use mathlib.Core.Bool.{not, true}
 use Prim.Native.Nat.{◌≤◌}
-use mathlib.Core.Bool.{true}
 use mathlib.Core.Path.{◌≡◌, sym, ap, subst, ◌∙◌}
 use native.Mathlib.Omega.{arith}
 use borrow.Author.Tests.{leb-true, not-true, not-false}
@@ -54,7 +53,10 @@ returns-then-not-has_room c =
 
 pub pass-size-requires : goal.pass-size-requires
 pass-size-requires c =
-    record { listed = (listed _ _ c.requires).0; text_in_bounds = λ y. omega (arith, fits (goal.at.pass-size-requires c).Else-not-has_room, ap length c.has_room.ensures.out_unchanged) }
+    record {
+      listed = (listed _ _ c.requires).0;
+      text_in_bounds = λ y. omega (arith, fits (goal.at.pass-size-requires c).Else-not-has_room, ap length c.has_room.ensures.out_unchanged);
+    }
 
 pub turn-requires : goal.turn-requires
 turn-requires c =

@@ -22,7 +22,10 @@ returns-then-size-usable c =
 
 pub put-requires : goal.put-requires
 put-requires c =
-    record { held = (_, taken_holds _ _ c.requires.groups_value); end_value = (c.requires.size_value, omega (arith, fits (goal.at.put-requires c).Else-size-usable)) }
+    record {
+      held = (_, taken_holds _ _ c.requires.groups_value);
+      end_value = (c.requires.size_value, omega (arith, fits (goal.at.put-requires c).Else-size-usable));
+    }
 
 pub returns : goal.returns
 returns c =

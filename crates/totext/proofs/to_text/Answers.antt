@@ -31,7 +31,10 @@ returns-then-c-ne-DONE c =
 
 pub move_taken-requires : goal.move_taken-requires
 move_taken-requires c =
-    record { groups_value = taken (goal.at.move_taken-requires c).Else-c-ne-DONE (sized (goal.at.move_taken-requires c).Else-fault-ne-DONE); size_value = c.check-c.ensures.size c.if-c-ne-DONE.false }
+    record {
+      groups_value = taken (goal.at.move_taken-requires c).Else-c-ne-DONE (sized (goal.at.move_taken-requires c).Else-fault-ne-DONE);
+      size_value = c.check-c.ensures.size c.if-c-ne-DONE.false;
+    }
 
 pub returns : goal.returns
 returns c =

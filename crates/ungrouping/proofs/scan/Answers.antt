@@ -40,7 +40,10 @@ returns-then-read-ge-END c =
     c.refused.ensures ∙ says-refused _ _ _ (c.read-read.ensures.refused over) (λ z. omega (arith, z, (c.read-read.ensures.named over).0))
 
 pub numbers_in-numbers-requires : goal.numbers_in-numbers-requires
-numbers_in-numbers-requires c = record { end_in_bounds = within c; end_le_text_most = omega (arith, within c, few (goal.at.numbers_in-numbers-requires c).Start) }
+numbers_in-numbers-requires c = record {
+  end_in_bounds = within c;
+  end_le_text_most = omega (arith, within c, few (goal.at.numbers_in-numbers-requires c).Start);
+}
 
 pub overflow_cast-read-2 : goal.overflow_cast-read-2
 overflow_cast-read-2 c = omega (arith, within (goal.at.overflow_cast-read-2 c).Else-read-ge-END, few (goal.at.overflow_cast-read-2 c).Start)

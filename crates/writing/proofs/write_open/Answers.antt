@@ -16,7 +16,10 @@ returns-then-not-is_sound c =
 
 pub write_list-requires : goal.write_list-requires
 write_list-requires c =
-    record { table = c.requires.table; stands = stands _ _ _ (c.is_sound.ensures.sound.0 (c.if-not-is_sound.false)) c.holder_of-x.ensures.0 }
+    record {
+      table = c.requires.table;
+      stands = stands _ _ _ (c.is_sound.ensures.sound.0 (c.if-not-is_sound.false)) c.holder_of-x.ensures.0;
+    }
 
 pub returns : goal.returns
 returns c =

@@ -14,7 +14,11 @@ new_cell-requires c =
     let a = c.args in
     let hung = c.hang.ensures in
     let shown = hung.is ∙ ap (λ (f : ℕ). hang (link_of a.k) a.h f (view a.s a.t.now)) c.free_head-f.ensures.0 in
-    record { table = hung.table; spare = subst (Spare a.s) (sym shown) c.requires.hangs.spare; kind_bound = (c.requires.kind_bound, omega arith) }
+    record {
+      table = hung.table;
+      spare = subst (Spare a.s) (sym shown) c.requires.hangs.spare;
+      kind_bound = (c.requires.kind_bound, omega arith);
+    }
 
 pub returns : goal.returns
 returns c =

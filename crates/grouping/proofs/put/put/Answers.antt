@@ -77,7 +77,10 @@ overflow_add-n c = omega (arith, few (goal.at.overflow_add-n c).Start)
 pub put-first-requires : goal.put-first-requires
 put-first-requires c =
     let a = c.args in
-    let l = list_at (view a.s a.t.now).cells a.x in record { v_lt_numbers_end = omega (arith, few (goal.at.put-first-requires c).Start); v_in_bounds = omega (arith, has_room (goal.at.put-first-requires c).Start, groups_fit l (usable (length a.out.now)) c.requires.writable) }
+    let l = list_at (view a.s a.t.now).cells a.x in record {
+      v_lt_numbers_end = omega (arith, few (goal.at.put-first-requires c).Start);
+      v_in_bounds = omega (arith, has_room (goal.at.put-first-requires c).Start, groups_fit l (usable (length a.out.now)) c.requires.writable);
+    }
 
 pub loop-w-init : goal.loop-w-init
 loop-w-init c =
@@ -89,7 +92,11 @@ pub put_step-w-requires : goal.put_step-w-requires
 put_step-w-requires c =
     let p = c.loop-w in
     let f = fits (goal.at.put_step-w-requires c).After-put-first in
-    let deep = shallow _ _ _ _ p.out p.after p.w p.invariant (omega arith) f in record { table = c.requires.table; may_turn = may_turn _ _ _ p.after p.w p.invariant.opened p.invariant.walks (omega arith) _ c.requires.table.measured (omega arith) deep; roomy = roomy _ _ _ _ p.out p.after p.w p.invariant (omega arith) f _ (omega (arith, p.invariant.room)) }
+    let deep = shallow _ _ _ _ p.out p.after p.w p.invariant (omega arith) f in record {
+      table = c.requires.table;
+      may_turn = may_turn _ _ _ p.after p.w p.invariant.opened p.invariant.walks (omega arith) _ c.requires.table.measured (omega arith) deep;
+      roomy = roomy _ _ _ _ p.out p.after p.w p.invariant (omega arith) f _ (omega (arith, p.invariant.room));
+    }
 
 pub loop-w-smaller : goal.loop-w-smaller
 loop-w-smaller c = (went (goal.at.loop-w-smaller c).After-put_step-w (fits (goal.at.loop-w-smaller c).After-put-first)).1

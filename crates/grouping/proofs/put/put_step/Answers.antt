@@ -42,7 +42,10 @@ kind_of-requires c =
 pub put-end-requires : goal.put-end-requires
 put-end-requires c =
     let e = c.elem_of-e in
-    record { v_lt_numbers_end = omega arith; v_in_bounds = rw e.ensures (c.requires.roomy.passes c.if-x-eq0.false (atomic (goal.at.put-end-requires c).Then-kind_of-eq0)) }
+    record {
+      v_lt_numbers_end = omega arith;
+      v_in_bounds = rw e.ensures (c.requires.roomy.passes c.if-x-eq0.false (atomic (goal.at.put-end-requires c).Then-kind_of-eq0));
+    }
 
 pub pass-requires : goal.pass-requires
 pass-requires c =
@@ -62,16 +65,26 @@ returns-then-kind_of-eq0 c =
 
 pub length_at-n-requires : goal.length_at-n-requires
 length_at-n-requires c =
-    record { table = c.requires.table; left = rw c.elem_of-e.ensures (c.requires.may_turn.list c.if-x-eq0.false (listed c)) }
+    record {
+      table = c.requires.table;
+      left = rw c.elem_of-e.ensures (c.requires.may_turn.list c.if-x-eq0.false (listed c));
+    }
 
 pub put-end-requires-2 : goal.put-end-requires-2
 put-end-requires-2 c =
-    record { v_lt_numbers_end = omega (arith, c.length_at-n.ensures.1, c.requires.table.few); v_in_bounds = rw (its_number (goal.at.put-end-requires-2 c).After-length_at-n) (c.requires.roomy.opens c.if-x-eq0.false (listed (goal.at.put-end-requires-2 c).Else-kind_of-eq0)) }
+    record {
+      v_lt_numbers_end = omega (arith, c.length_at-n.ensures.1, c.requires.table.few);
+      v_in_bounds = rw (its_number (goal.at.put-end-requires-2 c).After-length_at-n) (c.requires.roomy.opens c.if-x-eq0.false (listed (goal.at.put-end-requires-2 c).Else-kind_of-eq0));
+    }
 
 pub open-requires : goal.open-requires
 open-requires c =
     let n = c.if-x-eq0.false in
-    record { table = c.requires.table; cell = c.requires.may_turn.cell n; depth_lt_levels = c.requires.may_turn.room n (listed (goal.at.open-requires c).Else-kind_of-eq0) }
+    record {
+      table = c.requires.table;
+      cell = c.requires.may_turn.cell n;
+      depth_lt_levels = c.requires.may_turn.room n (listed (goal.at.open-requires c).Else-kind_of-eq0);
+    }
 
 pub returns : goal.returns
 returns c =

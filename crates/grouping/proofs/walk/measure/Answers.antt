@@ -55,7 +55,10 @@ pub too_deep-requires : goal.too_deep-requires
 too_deep-requires c =
     let table = c.requires.table in
     let p = c.loop-w in
-    record { table = table; cell = at-cell _ _ _ p.after p.w p.invariant.opened p.invariant.walks (omega arith) _ table.measured }
+    record {
+      table = table;
+      cell = at-cell _ _ _ p.after p.w p.invariant.opened p.invariant.walks (omega arith) _ table.measured;
+    }
 
 pub returns-then-too_deep : goal.returns-then-too_deep
 returns-then-too_deep c =
@@ -72,7 +75,10 @@ overflow_add-turns c =
 pub step-w-requires : goal.step-w-requires
 step-w-requires c =
     let p = c.loop-w in
-    record { table = c.requires.table; may_turn = may_turn _ _ _ p.after p.w p.invariant.opened p.invariant.walks (omega arith) _ c.requires.table.measured c.requires.usable_le_text_most (room c) }
+    record {
+      table = c.requires.table;
+      may_turn = may_turn _ _ _ p.after p.w p.invariant.opened p.invariant.walks (omega arith) _ c.requires.table.measured c.requires.usable_le_text_most (room c);
+    }
 
 pub returns-then-w-usable : goal.returns-then-w-usable
 returns-then-w-usable c =

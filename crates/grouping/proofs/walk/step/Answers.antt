@@ -47,7 +47,10 @@ returns-then-kind_of-eq0 c =
 
 pub of_list-requires : goal.of_list-requires
 of_list-requires c =
-    record { table = c.requires.table; left = rw c.elem_of-e.ensures (c.requires.may_turn.list c.if-x-eq0.false (listed (goal.at.of_list-requires c).Else-kind_of-eq0)) }
+    record {
+      table = c.requires.table;
+      left = rw c.elem_of-e.ensures (c.requires.may_turn.list c.if-x-eq0.false (listed (goal.at.of_list-requires c).Else-kind_of-eq0));
+    }
 
 pub overflow_add-w-2 : goal.overflow_add-w-2
 overflow_add-w-2 c =
@@ -57,7 +60,11 @@ overflow_add-w-2 c =
 pub open-requires : goal.open-requires
 open-requires c =
     let n = c.if-x-eq0.false in
-    record { table = c.requires.table; cell = c.requires.may_turn.cell n; depth_lt_levels = c.requires.may_turn.room n (listed (goal.at.open-requires c).Else-kind_of-eq0) }
+    record {
+      table = c.requires.table;
+      cell = c.requires.may_turn.cell n;
+      depth_lt_levels = c.requires.may_turn.room n (listed (goal.at.open-requires c).Else-kind_of-eq0);
+    }
 
 pub returns : goal.returns
 returns c =

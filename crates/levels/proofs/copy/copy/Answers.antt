@@ -55,7 +55,10 @@ next_of-next-requires c = record { table = c.loop-left.invariant.0; cell = cell 
 
 pub next_of-rest-requires : goal.next_of-rest-requires
 next_of-rest-requires c =
-    record { table = c.loop-left.invariant.0; cell = cell (goal.at.next_of-rest-requires c).In-loop-left _ (sure (goal.at.next_of-rest-requires c).In-loop-left).free }
+    record {
+      table = c.loop-left.invariant.0;
+      cell = cell (goal.at.next_of-rest-requires c).In-loop-left _ (sure (goal.at.next_of-rest-requires c).In-loop-left).free;
+    }
 
 pub twin-requires : goal.twin-requires
 twin-requires c =

@@ -8,7 +8,11 @@ use Rattle.levels.proofs.copy.twin.Goals as goal
 pub share-requires : goal.share-requires
 share-requires c =
     let k = c.requires.copyable in
-    record { table = c.requires.table; x_le_cells = rw c.item_of-e.ensures (omega arith); x_bound = rw c.item_of-e.ensures (λ n. omega (arith, k.more n)) }
+    record {
+      table = c.requires.table;
+      x_le_cells = rw c.item_of-e.ensures (omega arith);
+      x_bound = rw c.item_of-e.ensures (λ n. omega (arith, k.more n));
+    }
 
 pub returns : goal.returns
 returns c =

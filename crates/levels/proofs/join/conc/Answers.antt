@@ -17,7 +17,11 @@ returns-then-y-eq0 c =
 
 pub set_holder-requires : goal.set_holder-requires
 set_holder-requires c =
-    record { table = c.requires.table; h_bound = c.requires.a_bound.0; v_le_cells = rw c.holder_of-y.ensures.0 (holder_high _ _ c.requires.table c.requires.sound _) }
+    record {
+      table = c.requires.table;
+      h_bound = c.requires.a_bound.0;
+      v_le_cells = rw c.holder_of-y.ensures.0 (holder_high _ _ c.requires.table c.requires.sound _);
+    }
 
 pub returns-then-x-eq0 : goal.returns-then-x-eq0
 returns-then-x-eq0 c =
@@ -35,7 +39,11 @@ set_next-requires c =
     let na : holder p a.a ≢ 0 = λ q. c.if-x-eq0.false (c.holder_of-x.ensures.0 ∙ q) in
     let nb : holder p a.b ≢ 0 = λ q. c.if-y-eq0.false (c.holder_of-y.ensures.0 ∙ q) in
     let e = (c.requires.joins nb).1 na in
-    let i = last-cell _ _ c.requires.sound na in record { table = c.requires.table; cell = record { low = omega (arith, e, i.0); high = omega (arith, e, i.1, c.requires.table.measured) }; v_le_cells = rw c.holder_of-y.ensures.0 (holder_high _ _ c.requires.table c.requires.sound _) }
+    let i = last-cell _ _ c.requires.sound na in record {
+      table = c.requires.table;
+      cell = record { low = omega (arith, e, i.0); high = omega (arith, e, i.1, c.requires.table.measured) };
+      v_le_cells = rw c.holder_of-y.ensures.0 (holder_high _ _ c.requires.table c.requires.sound _);
+    }
 
 pub returns : goal.returns
 returns c =

@@ -13,7 +13,10 @@ use Rattle.levels.proofs.turn.inv.Goals as goal
 
 pub turn-z-requires : goal.turn-z-requires
 turn-z-requires c =
-    record { table = c.requires.table; turns = rw c.holder_of-x.ensures.0 (own_turns _ _ c.requires.sound (omega arith) c.requires.a_value) }
+    record {
+      table = c.requires.table;
+      turns = rw c.holder_of-x.ensures.0 (own_turns _ _ c.requires.sound (omega arith) c.requires.a_value);
+    }
 
 pub set_holder-requires : goal.set_holder-requires
 set_holder-requires c =

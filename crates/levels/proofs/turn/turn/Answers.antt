@@ -41,7 +41,11 @@ next_of-next-requires c = record { table = c.loop-left.invariant.0; cell = cell 
 
 pub set_next-requires : goal.set_next-requires
 set_next-requires c =
-    record { table = c.loop-left.invariant.0; cell = cell (goal.at.set_next-requires c).In-loop-left; v_le_cells = omega (arith, (sure (goal.at.set_next-requires c).In-loop-left).back) }
+    record {
+      table = c.loop-left.invariant.0;
+      cell = cell (goal.at.set_next-requires c).In-loop-left;
+      v_le_cells = omega (arith, (sure (goal.at.set_next-requires c).In-loop-left).back);
+    }
 
 pub loop-left-smaller : goal.loop-left-smaller
 loop-left-smaller c =

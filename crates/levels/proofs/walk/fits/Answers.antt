@@ -28,7 +28,10 @@ next_of-x-requires c =
 
 pub next_of-f-requires : goal.next_of-f-requires
 next_of-f-requires c =
-    record { table = c.requires.table; cell = cell (goal.at.next_of-f-requires c).Else-f-eq0 _ (both (goal.at.next_of-f-requires c).Else-f-eq0).free }
+    record {
+      table = c.requires.table;
+      cell = cell (goal.at.next_of-f-requires c).Else-f-eq0 _ (both (goal.at.next_of-f-requires c).Else-f-eq0).free;
+    }
 
 pub loop-x-smaller : goal.loop-x-smaller
 loop-x-smaller c = rw c.next_of-x.ensures.0 (omega (arith, (both (goal.at.loop-x-smaller c).Else-f-eq0).here.longer))

@@ -9,7 +9,11 @@ loop-g-init c =
 
 pub take_byte-g-requires : goal.take_byte-g-requires
 take_byte-g-requires c =
-    record { line_len = c.loop-g.invariant.1; len_le_line_most = (c.loop-g.invariant.0.short, c.loop-g.invariant.0.unready); at_bound = omega arith }
+    record {
+      line_len = c.loop-g.invariant.1;
+      len_le_line_most = (c.loop-g.invariant.0.short, c.loop-g.invariant.0.unready);
+      at_bound = omega arith;
+    }
 
 pub returns-then-g : goal.returns-then-g
 returns-then-g c =

@@ -29,12 +29,22 @@ returns-then-refusal-ne-DONE c v =
 
 pub first-e-requires : goal.first-e-requires
 first-e-requires c =
-    record { table = c.requires.table; a_bound = c.requires.a_bound.0; sound = c.requires.sound; a_nonzero = (parted c).filled }
+    record {
+      table = c.requires.table;
+      a_bound = c.requires.a_bound.0;
+      sound = c.requires.sound;
+      a_nonzero = (parted c).filled;
+    }
 
 pub adv-requires : goal.adv-requires
 adv-requires c =
     let q = parted (goal.at.adv-requires c).Else-refusal-ne-DONE in
-    record { table = c.requires.table; a_bound = c.requires.a_bound; sound = c.requires.sound; b_value = (q.vacant, q.filled) }
+    record {
+      table = c.requires.table;
+      a_bound = c.requires.a_bound;
+      sound = c.requires.sound;
+      b_value = (q.vacant, q.filled);
+    }
 
 pub returns : goal.returns
 unfolding effect

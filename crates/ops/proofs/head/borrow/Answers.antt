@@ -33,7 +33,12 @@ returns-then-is_occupied c v =
 
 pub borrow-requires : goal.borrow-requires
 borrow-requires c =
-    record { table = c.requires.table; a_bound = c.requires.a_bound; sound = c.requires.sound; b_value = eqb-true _ 0 (not-false _ (vacant (goal.at.borrow-requires c).Else-is_occupied)) }
+    record {
+      table = c.requires.table;
+      a_bound = c.requires.a_bound;
+      sound = c.requires.sound;
+      b_value = eqb-true _ 0 (not-false _ (vacant (goal.at.borrow-requires c).Else-is_occupied));
+    }
 
 pub returns : goal.returns
 unfolding effect

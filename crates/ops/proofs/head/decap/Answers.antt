@@ -38,7 +38,10 @@ returns-then-refusal-ne-DONE c v =
 
 pub count_of-requires : goal.count_of-requires
 count_of-requires c =
-    record { table = c.requires.table; cell = rw c.holder_of-x.ensures.0 (holder-head _ _ c.requires.table c.requires.sound _ (parted (goal.at.count_of-requires c).Else-refusal-ne-DONE).filled).cell }
+    record {
+      table = c.requires.table;
+      cell = rw c.holder_of-x.ensures.0 (holder-head _ _ c.requires.table c.requires.sound _ (parted (goal.at.count_of-requires c).Else-refusal-ne-DONE).filled).cell;
+    }
 
 pub returns-then-count_of-gt1 : goal.returns-then-count_of-gt1
 returns-then-count_of-gt1 c v =
@@ -50,12 +53,22 @@ returns-then-count_of-gt1 c v =
 
 pub first-e-requires : goal.first-e-requires
 first-e-requires c =
-    record { table = c.requires.table; a_bound = c.requires.a_bound.0; sound = c.requires.sound; a_nonzero = (parted (goal.at.first-e-requires c).Else-refusal-ne-DONE).filled }
+    record {
+      table = c.requires.table;
+      a_bound = c.requires.a_bound.0;
+      sound = c.requires.sound;
+      a_nonzero = (parted (goal.at.first-e-requires c).Else-refusal-ne-DONE).filled;
+    }
 
 pub decap-requires : goal.decap-requires
 decap-requires c =
     let q = parted (goal.at.decap-requires c).Else-refusal-ne-DONE in
-    record { table = c.requires.table; a_bound = c.requires.a_bound; sound = c.requires.sound; b_value = (q.vacant, own_head _ _ c.requires.sound q.filled (own (goal.at.decap-requires c).Else-count_of-gt1)) }
+    record {
+      table = c.requires.table;
+      a_bound = c.requires.a_bound;
+      sound = c.requires.sound;
+      b_value = (q.vacant, own_head _ _ c.requires.sound q.filled (own (goal.at.decap-requires c).Else-count_of-gt1));
+    }
 
 pub returns : goal.returns
 unfolding effect

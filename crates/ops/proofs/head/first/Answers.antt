@@ -34,7 +34,12 @@ returns-then-is_null c b v =
 
 pub first-e-requires : goal.first-e-requires
 first-e-requires c =
-    record { table = c.requires.table; a_bound = c.requires.a_bound; sound = c.requires.sound; a_nonzero = eqb-false _ 0 (filled c) }
+    record {
+      table = c.requires.table;
+      a_bound = c.requires.a_bound;
+      sound = c.requires.sound;
+      a_nonzero = eqb-false _ 0 (filled c);
+    }
 
 pub returns : goal.returns
 unfolding effect

@@ -33,7 +33,12 @@ returns-then-is_full c v =
 
 pub pfl-requires : goal.pfl-requires
 pfl-requires c =
-    record { table = c.requires.table; a_bound = c.requires.a_bound; sound = c.requires.sound; t_nonzero = some_free _ c.requires.sound (ltb-false _ 1 (roomy (goal.at.pfl-requires c).Else-is_full)) }
+    record {
+      table = c.requires.table;
+      a_bound = c.requires.a_bound;
+      sound = c.requires.sound;
+      t_nonzero = some_free _ c.requires.sound (ltb-false _ 1 (roomy (goal.at.pfl-requires c).Else-is_full));
+    }
 
 pub returns : goal.returns
 unfolding effect

@@ -45,7 +45,12 @@ returns-then-not-fits c v =
 
 pub cinv-requires : goal.cinv-requires
 cinv-requires c =
-    record { table = c.requires.table; a_bound = c.requires.a_bound; sound = c.requires.sound; b_value = (eqb-true _ 0 (not-false _ (vacant (goal.at.cinv-requires c).Else-is_occupied)), roomy (goal.at.cinv-requires c).Else-not-fits) }
+    record {
+      table = c.requires.table;
+      a_bound = c.requires.a_bound;
+      sound = c.requires.sound;
+      b_value = (eqb-true _ 0 (not-false _ (vacant (goal.at.cinv-requires c).Else-is_occupied)), roomy (goal.at.cinv-requires c).Else-not-fits);
+    }
 
 pub returns : goal.returns
 unfolding effect

@@ -43,7 +43,12 @@ returns-then-e c v =
 pub conc-requires : goal.conc-requires
 conc-requires c =
     let e = c.end_of-e.ensures in
-    record { table = c.requires.table; a_bound = c.requires.a_bound; sound = c.requires.sound; joins = λ n. (sym e.0 ∙ c.if-e.false, e.1 c.if-e.false) }
+    record {
+      table = c.requires.table;
+      a_bound = c.requires.a_bound;
+      sound = c.requires.sound;
+      joins = λ n. (sym e.0 ∙ c.if-e.false, e.1 c.if-e.false);
+    }
 
 pub returns : goal.returns
 unfolding effect

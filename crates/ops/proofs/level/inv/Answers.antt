@@ -23,7 +23,12 @@ returns-then-any_shared c b v =
 
 pub inv-requires : goal.inv-requires
 inv-requires c =
-    record { table = c.requires.table; a_bound = c.requires.a_bound; sound = c.requires.sound; a_value = sym c.any_shared.ensures ∙ c.if-any_shared.false }
+    record {
+      table = c.requires.table;
+      a_bound = c.requires.a_bound;
+      sound = c.requires.sound;
+      a_value = sym c.any_shared.ensures ∙ c.if-any_shared.false;
+    }
 
 pub returns : goal.returns
 unfolding effect

@@ -28,7 +28,12 @@ pub shut-requires : goal.shut-requires
 shut-requires c =
     let pre = c.requires in
     let atom = c.add_atom-j.ensures in
-    record { table = (atom []).table; h_bound = pre.holder; from_le_levels = (pre.levelled, c.if-q-p.false); coming = ends_come pre c.if-q-p.false c.if-q-p-2.true atom }
+    record {
+      table = (atom []).table;
+      h_bound = pre.holder;
+      from_le_levels = (pre.levelled, c.if-q-p.false);
+      coming = ends_come pre c.if-q-p.false c.if-q-p-2.true atom;
+    }
 
 pub returns-then-q-p-2 : goal.returns-then-q-p-2
 returns-then-q-p-2 c =
@@ -37,7 +42,12 @@ returns-then-q-p-2 c =
 pub shut-requires-2 : goal.shut-requires-2
 shut-requires-2 c =
     let pre = c.requires in
-    record { table = pre.table; h_bound = pre.holder; from_le_levels = (pre.levelled, c.if-q-p.false); coming = ends_alone pre c.if-q-p.false c.if-q-p-2.false }
+    record {
+      table = pre.table;
+      h_bound = pre.holder;
+      from_le_levels = (pre.levelled, c.if-q-p.false);
+      coming = ends_alone pre c.if-q-p.false c.if-q-p-2.false;
+    }
 
 pub returns : goal.returns
 returns c =

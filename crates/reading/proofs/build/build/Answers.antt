@@ -30,7 +30,10 @@ pub number_at-n-requires : goal.number_at-n-requires
 number_at-n-requires c = numbered (amidst c)
 
 pub next-q-requires : goal.next-q-requires
-next-q-requires c = record { amid = amidst (goal.at.next-q-requires c).In-loop-p; end_value = ap (λ (n : Number). n.end) c.number_at-n.ensures }
+next-q-requires c = record {
+  amid = amidst (goal.at.next-q-requires c).In-loop-p;
+  end_value = ap (λ (n : Number). n.end) c.number_at-n.ensures;
+}
 
 pub add-k-requires : goal.add-k-requires
 add-k-requires c =

@@ -52,7 +52,11 @@ closed-requires c =
     let h = inside (goal.at.closed-requires c).Start in
     let shut = c.if-text-at-eq41.true in
     let answered = sym (shut_answered h (empty amid shut) shut) ∙ amid.place.answered in
-    record { taken = amid.taken; closing = record { some = omega arith; within = omega arith; small = h.small; levelled = omega arith; counted = omega arith }; said = answered }
+    record {
+      taken = amid.taken;
+      closing = record { some = omega arith; within = omega arith; small = h.small; levelled = omega arith; counted = omega arith };
+      said = answered;
+    }
 
 pub returns-then-text-at-eq41 : goal.returns-then-text-at-eq41
 returns-then-text-at-eq41 c =
@@ -101,7 +105,11 @@ closed-requires-2 c =
     let a = atom (goal.at.closed-requires-2 c).Else-text-at-eq41 in
     let shut = a.ends c.if-text-end-eq44.false in
     let answered = sym (atom-answered h a.atom a.short a.more shut) ∙ amid.place.answered in
-    record { taken = amid.taken; closing = record { some = omega arith; within = omega arith; small = h.small; levelled = omega arith; counted = omega arith }; said = answered }
+    record {
+      taken = amid.taken;
+      closing = record { some = omega arith; within = omega arith; small = h.small; levelled = omega arith; counted = omega arith };
+      said = answered;
+    }
 
 pub returns : goal.returns
 returns c =

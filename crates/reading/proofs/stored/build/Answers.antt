@@ -19,7 +19,13 @@ build-requires c =
     let is = c.in-Text.is in
     let right = subst (λ x. (verdict x s).no ≡ DONE) is c.requires.bytes_value in
     let room = subst (λ x. extent (list_in x s) ≤ frees (view c.args.s c.args.t.now).cells) is c.requires.bytes_bound in
-    record { table = c.requires.table; h_bound = c.requires.h_bound; sound = c.requires.sound; taken = record { bytes = _; is = taken-answer (verdict Text s) right }; text_bound = room }
+    record {
+      table = c.requires.table;
+      h_bound = c.requires.h_bound;
+      sound = c.requires.sound;
+      taken = record { bytes = _; is = taken-answer (verdict Text s) right };
+      text_bound = room;
+    }
 
 pub build-requires-in-Groups : goal.build-requires-in-Groups
 build-requires-in-Groups c =
@@ -28,7 +34,13 @@ build-requires-in-Groups c =
     let right = subst (λ x. (verdict x s).no ≡ DONE) is c.requires.bytes_value in
     let room = subst (λ x. extent (list_in x s) ≤ frees (view c.args.s c.args.t.now).cells) is c.requires.bytes_bound in
     let held = taken_holds s (verdict Groups s).taken (taken-answer (verdict Groups s) right) in
-    record { table = c.requires.table; h_bound = c.requires.h_bound; sound = c.requires.sound; by_index = (_, held); bytes_bound = room }
+    record {
+      table = c.requires.table;
+      h_bound = c.requires.h_bound;
+      sound = c.requires.sound;
+      by_index = (_, held);
+      bytes_bound = room;
+    }
 
 pub returns-in-Text : goal.returns-in-Text
 returns-in-Text c =

@@ -29,7 +29,11 @@ step-w-requires c =
 pub give-size-requires : goal.give-size-requires
 give-size-requires c =
     let s = c.step-w in
-    record { v_lt_numbers_end = s.ensures.small; at_le_text_most = few_bytes _ _ _ _ _ _ _ c.requires.listed c.loop-w.invariant c.requires.text_in_bounds; v_in_bounds = room-on _ _ _ _ _ _ _ c.requires.listed c.loop-w.invariant c.requires.text_in_bounds _ _ s.ensures }
+    record {
+      v_lt_numbers_end = s.ensures.small;
+      at_le_text_most = few_bytes _ _ _ _ _ _ _ c.requires.listed c.loop-w.invariant c.requires.text_in_bounds;
+      v_in_bounds = room-on _ _ _ _ _ _ _ c.requires.listed c.loop-w.invariant c.requires.text_in_bounds _ _ s.ensures;
+    }
 
 pub loop-w-smaller : goal.loop-w-smaller
 loop-w-smaller c = omega (arith, c.step-w.ensures.back)
@@ -40,7 +44,11 @@ loop-w-preserved c =
 
 pub give-requires : goal.give-requires
 give-requires c =
-    let e = first (goal.at.give-requires c).After-loop-w in record { v_lt_numbers_end = number_fits _ _ _ _ _ _ _ c.requires.listed c.loop-w.invariant c.requires.text_in_bounds e; at_le_text_most = few_bytes _ _ _ _ _ _ _ c.requires.listed c.loop-w.invariant c.requires.text_in_bounds; v_in_bounds = room_end _ _ _ _ _ _ _ c.requires.listed c.loop-w.invariant c.requires.text_in_bounds e }
+    let e = first (goal.at.give-requires c).After-loop-w in record {
+      v_lt_numbers_end = number_fits _ _ _ _ _ _ _ c.requires.listed c.loop-w.invariant c.requires.text_in_bounds e;
+      at_le_text_most = few_bytes _ _ _ _ _ _ _ c.requires.listed c.loop-w.invariant c.requires.text_in_bounds;
+      v_in_bounds = room_end _ _ _ _ _ _ _ c.requires.listed c.loop-w.invariant c.requires.text_in_bounds e;
+    }
 
 pub shape_of-out : goal.shape_of-out
 shape_of-out c =

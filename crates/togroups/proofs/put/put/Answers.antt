@@ -34,7 +34,10 @@ bounds-out-at c = omega (arith, first-room c.args.out.now c.args.at c.args.v _ _
 
 pub returns-then-v-lt128 : goal.returns-then-v-lt128
 returns-then-v-lt128 c =
-    let q = back_stored c.args.out.now c.args.at c.args.v _ _ (one c) c.requires.v_in_bounds in record { value = q.0; out_after = q.1 }
+    let q = back_stored c.args.out.now c.args.at c.args.v _ _ (one c) c.requires.v_in_bounds in record {
+      value = q.0;
+      out_after = q.1;
+    }
 
 pub bounds-out-at-then-a-lt128 : goal.bounds-out-at-then-a-lt128
 bounds-out-at-then-a-lt128 c = omega (arith, first-room c.args.out.now c.args.at c.args.v _ _ (two c) c.requires.v_in_bounds)
@@ -44,7 +47,10 @@ bounds-out-at-then-a-lt128-2 c = omega (arith, later-room c.args.out.now c.args.
 
 pub returns-then-a-lt128 : goal.returns-then-a-lt128
 returns-then-a-lt128 c =
-    let q = back_stored c.args.out.now c.args.at c.args.v _ _ (two c) c.requires.v_in_bounds in record { value = q.0; out_after = q.1 }
+    let q = back_stored c.args.out.now c.args.at c.args.v _ _ (two c) c.requires.v_in_bounds in record {
+      value = q.0;
+      out_after = q.1;
+    }
 
 pub bounds-out-at-then-b-lt128 : goal.bounds-out-at-then-b-lt128
 bounds-out-at-then-b-lt128 c = omega (arith, first-room c.args.out.now c.args.at c.args.v _ _ (three c) c.requires.v_in_bounds)
@@ -57,4 +63,7 @@ bounds-out-at-then-b-lt128-3 c = omega (arith, later-room c.args.out.now c.args.
 
 pub returns-then-b-lt128 : goal.returns-then-b-lt128
 returns-then-b-lt128 c =
-    let q = back_stored c.args.out.now c.args.at c.args.v _ _ (three c) c.requires.v_in_bounds in record { value = q.0; out_after = q.1 }
+    let q = back_stored c.args.out.now c.args.at c.args.v _ _ (three c) c.requires.v_in_bounds in record {
+      value = q.0;
+      out_after = q.1;
+    }

@@ -36,7 +36,10 @@ bounds-out-at-then-c-lt128-3 c = omega (arith, later-room c.args.out.now c.args.
 
 pub returns-then-c-lt128 : goal.returns-then-c-lt128
 returns-then-c-lt128 c =
-    let q = back_stored c.args.out.now c.args.at c.args.v _ _ (four c) c.requires.v_in_bounds in record { value = q.0; out_after = q.1 }
+    let q = back_stored c.args.out.now c.args.at c.args.v _ _ (four c) c.requires.v_in_bounds in record {
+      value = q.0;
+      out_after = q.1;
+    }
 
 pub bounds-out-at-2 : goal.bounds-out-at-2
 bounds-out-at-2 c = omega (arith, first-room c.args.out.now c.args.at c.args.v _ _ (five c) c.requires.v_in_bounds)
@@ -55,4 +58,7 @@ bounds-out-at-6 c = omega (arith, later-room c.args.out.now c.args.at c.args.v _
 
 pub returns : goal.returns
 returns c =
-    let q = back_stored c.args.out.now c.args.at c.args.v _ _ (five c) c.requires.v_in_bounds in record { value = q.0; out_after = q.1 }
+    let q = back_stored c.args.out.now c.args.at c.args.v _ _ (five c) c.requires.v_in_bounds in record {
+      value = q.0;
+      out_after = q.1;
+    }

@@ -23,7 +23,10 @@ pub overflow_add-i : goal.overflow_add-i
 overflow_add-i c = omega (arith, inside c)
 
 pub swap_eight-requires : goal.swap_eight-requires
-swap_eight-requires c = record { i_bound = omega (arith, inside (goal.at.swap_eight-requires c).At-loop-i); j_in_bounds = omega (arith, inside (goal.at.swap_eight-requires c).At-loop-i) }
+swap_eight-requires c = record {
+  i_bound = omega (arith, inside (goal.at.swap_eight-requires c).At-loop-i);
+  j_in_bounds = omega (arith, inside (goal.at.swap_eight-requires c).At-loop-i);
+}
 
 pub overflow_add-i-in-loop-i : goal.overflow_add-i-in-loop-i
 overflow_add-i-in-loop-i c = omega (arith, inside (goal.at.overflow_add-i-in-loop-i c).At-loop-i)

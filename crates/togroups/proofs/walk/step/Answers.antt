@@ -16,7 +16,10 @@ octal c = sym c.is_octal.ensures ∙ c.if-is_octal.true
 
 pub atom-requires : goal.atom-requires
 atom-requires c =
-    record { ends = ends _ _ _ c.requires.listed c.requires.walking c.requires.le_at (octal c); count_le_text_most = few_yet _ _ _ c.requires.listed c.requires.walking c.requires.le_at }
+    record {
+      ends = ends _ _ _ c.requires.listed c.requires.walking c.requires.le_at (octal c);
+      count_le_text_most = few_yet _ _ _ c.requires.listed c.requires.walking c.requires.le_at;
+    }
 
 pub returns-then-is_octal : goal.returns-then-is_octal
 returns-then-is_octal c =

@@ -21,7 +21,11 @@ loop-w-2-init c = (put-from c.loop-w.invariant, omega arith, omega arith)
 
 pub put_digits-ran-requires : goal.put_digits-ran-requires
 put_digits-ran-requires c =
-    let g = c.loop-w-2.invariant in record { standing = g.0.stands; le_depth = g.1; end_value = (c.requires.end_value.0, omega (arith, g.0.room, c.loop-w.invariant.room, length-set c.args.out.now 0 40, c.requires.end_value.1)) }
+    let g = c.loop-w-2.invariant in record {
+      standing = g.0.stands;
+      le_depth = g.1;
+      end_value = (c.requires.end_value.0, omega (arith, g.0.room, c.loop-w.invariant.room, length-set c.args.out.now 0 40, c.requires.end_value.1));
+    }
 
 pub put_element-w-requires : goal.put_element-w-requires
 put_element-w-requires c =

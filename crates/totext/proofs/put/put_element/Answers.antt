@@ -50,7 +50,10 @@ pub returns-then-n-eq0 : goal.returns-then-n-eq0
 returns-then-n-eq0 c =
     let a = c.args in
     let n = c.number_at-n.result in
-    let e = ap (λ (k : ℕ). walk n.end (a.w.to + k) a.w.depth (a.w.left - 1)) c.count.ensures.0 in record { put_turn = put-parted {bs = numeral (n.value / 2)} (passes (goal.at.returns-then-n-eq0 c).Then-n-eq0) e refl c.put_atom.ensures c.part.ensures; le_depth_2 = omega (arith, ap (λ (v : Walk). v.depth) c.part.ensures.is, c.requires.le_depth.0) }
+    let e = ap (λ (k : ℕ). walk n.end (a.w.to + k) a.w.depth (a.w.left - 1)) c.count.ensures.0 in record {
+      put_turn = put-parted {bs = numeral (n.value / 2)} (passes (goal.at.returns-then-n-eq0 c).Then-n-eq0) e refl c.put_atom.ensures c.part.ensures;
+      le_depth_2 = omega (arith, ap (λ (v : Walk). v.depth) c.part.ensures.is, c.requires.le_depth.0);
+    }
 
 pub bounds-out-to : goal.bounds-out-to
 bounds-out-to c = let d = (opens c).0 in omega (arith, d.stands.within)
@@ -68,4 +71,7 @@ pub returns : goal.returns
 returns c =
     let a = c.args in
     let d = (opens (goal.at.returns c).Else-n-eq0).0 in
-    record { put_turn = (_, d, put_one a.out.now a.w.to a.end 40 (omega (arith, d.stands.within)) c.requires.end_value.1); le_depth_2 = omega arith }
+    record {
+      put_turn = (_, d, put_one a.out.now a.w.to a.end 40 (omega (arith, d.stands.within)) c.requires.end_value.1);
+      le_depth_2 = omega arith;
+    }

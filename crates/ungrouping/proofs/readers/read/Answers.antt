@@ -21,7 +21,11 @@ returns-then-first-eq0-2 c = whole-atom _ (its_number (goal.at.returns-then-firs
 
 pub read_list-requires : goal.read_list-requires
 read_list-requires c =
-    record { bytes_len_bound = c.requires; from_in_bounds = (its_number (goal.at.read_list-requires c).Else-first-eq0).within; level_le_levels = omega arith }
+    record {
+      bytes_len_bound = c.requires;
+      from_in_bounds = (its_number (goal.at.read_list-requires c).Else-first-eq0).within;
+      level_le_levels = omega arith;
+    }
 
 pub returns : goal.returns
 returns c =

@@ -29,7 +29,12 @@ loop-w-init c =
 pub put_step-w-requires : goal.put_step-w-requires
 put_step-w-requires c =
     let f = c.requires.fitting in
-    let g = c.loop-w.invariant in record { table = c.requires.table; may_turn = may_turn _ _ _ _ _ g.walks (omega arith) _ c.requires.table.measured f.short (shallow _ _ _ _ _ _ c.loop-w.w g (omega arith) f.fits); roomy = roomy _ _ _ _ c.loop-w.out c.loop-w.after c.loop-w.w g (omega arith) f.fits f.size; end_in_bounds = omega (arith, length-set c.args.out.now 0 40) }
+    let g = c.loop-w.invariant in record {
+      table = c.requires.table;
+      may_turn = may_turn _ _ _ _ _ g.walks (omega arith) _ c.requires.table.measured f.short (shallow _ _ _ _ _ _ c.loop-w.w g (omega arith) f.fits);
+      roomy = roomy _ _ _ _ c.loop-w.out c.loop-w.after c.loop-w.w g (omega arith) f.fits f.size;
+      end_in_bounds = omega (arith, length-set c.args.out.now 0 40);
+    }
 
 pub loop-w-smaller : goal.loop-w-smaller
 loop-w-smaller c = let q = went (goal.at.loop-w-smaller c).After-put_step-w in omega arith

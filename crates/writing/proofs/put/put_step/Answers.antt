@@ -10,7 +10,10 @@ use Rattle.writing.proofs.put.put_step.Goals as goal
 
 pub put_shut-requires : goal.put_shut-requires
 put_shut-requires c =
-    record { le_depth = (c.requires.may_turn.some, c.requires.may_turn.low, c.requires.may_turn.short); w_bound = (c.requires.roomy.shuts c.if-x-eq0.true, c.requires.end_in_bounds) }
+    record {
+      le_depth = (c.requires.may_turn.some, c.requires.may_turn.low, c.requires.may_turn.short);
+      w_bound = (c.requires.roomy.shuts c.if-x-eq0.true, c.requires.end_in_bounds);
+    }
 
 pub returns-then-x-eq0 : goal.returns-then-x-eq0
 returns-then-x-eq0 c =
@@ -24,7 +27,11 @@ pub put_pass-requires : goal.put_pass-requires
 put_pass-requires c =
     let n = c.if-x-eq0.false in
     let k = sym c.kind_of.ensures ∙ c.if-kind_of-eq0.true in
-    record { table = c.requires.table; cell = c.requires.may_turn.cell n; size_le_text_most = (c.requires.may_turn.short, c.requires.roomy.passes n k, c.requires.end_in_bounds) }
+    record {
+      table = c.requires.table;
+      cell = c.requires.may_turn.cell n;
+      size_le_text_most = (c.requires.may_turn.short, c.requires.roomy.passes n k, c.requires.end_in_bounds);
+    }
 
 pub returns-then-kind_of-eq0 : goal.returns-then-kind_of-eq0
 returns-then-kind_of-eq0 c = (
@@ -40,7 +47,11 @@ bounds-out-at c =
 pub open-requires : goal.open-requires
 open-requires c =
     let n = c.if-x-eq0.false in
-    record { table = c.requires.table; cell = c.requires.may_turn.cell n; depth_lt_levels = (c.requires.may_turn.room n (λ q. c.if-kind_of-eq0.false (c.kind_of.ensures ∙ q)), c.requires.may_turn.short) }
+    record {
+      table = c.requires.table;
+      cell = c.requires.may_turn.cell n;
+      depth_lt_levels = (c.requires.may_turn.room n (λ q. c.if-kind_of-eq0.false (c.kind_of.ensures ∙ q)), c.requires.may_turn.short);
+    }
 
 pub returns : goal.returns
 returns c =

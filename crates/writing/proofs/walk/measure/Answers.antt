@@ -56,7 +56,10 @@ returns-then-too_deep c =
 pub step-w-requires : goal.step-w-requires
 step-w-requires c =
     let p = c.loop-w in
-    record { table = c.requires.table; may_turn = may_turn _ _ _ p.after p.w p.invariant (omega arith) _ c.requires.table.measured c.requires.usable_le_text_most (room c) }
+    record {
+      table = c.requires.table;
+      may_turn = may_turn _ _ _ p.after p.w p.invariant (omega arith) _ c.requires.table.measured c.requires.usable_le_text_most (room c);
+    }
 
 pub returns-then-w-usable : goal.returns-then-w-usable
 returns-then-w-usable c =
