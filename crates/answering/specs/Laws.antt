@@ -1,5 +1,5 @@
 pub mod FreeLaws
+pub mod TrimLaws
 pub mod SessionLaws
 pub mod ReadLaws
-pub mod TrimLaws
 pub mod WriteLaws

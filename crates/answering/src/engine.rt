@@ -1,94 +1,118 @@
-// The engine's calls for a line: NEW, an operation, READ. Each gives the words in use after it, and what is to be told.
-ghost use Rattle.std.specs.Prelude.{◌≡◌, ◌+◌, ◌≤◌, length, take, drop};
+// The engine of a session and its calls for a line: NEW, an operation, READ. Each gives what is to be told.
+ghost use Rattle.std.specs.Prelude.{◌≡◌, ◌≤◌, [], List, ℕ, length, take};
+ghost use Rattle.answers.specs.Operations.{code_no};
 ghost use Rattle.table.specs.Limits.{cells_most};
 ghost use Rattle.table.specs.View.{four, word_count};
 ghost use Rattle.table.specs.declared.Form.TheVariants.{Four};
 ghost use Rattle.lines.specs.Splitting.{line_most};
-ghost use Rattle.answering.specs.Session.{work_most, opening, opened, operated, performing, took, reading_of};
-ghost use Rattle.answering.specs.Kept.{line_room, Says};
+ghost use Rattle.answering.specs.Session.{opening, opened, operated, performing, took, reading_of};
+ghost use Rattle.answering.specs.Kept.{line_room, Says, plain};
 
-use crate::texts::fill_text;
-use answers::{Answer, Kind};
+use answers::{Code, Kind, Refusal};
+use entry::Work;
 use groups::Stored;
-use table::Shape;
+use lines::record::fill_record;
+use std::marker::Model;
+use table::{Cell, Shape};
 
-// The number of words in use, and answer, kind and value.
+// Words for the largest table, of which the first are in use. None is before a NEW succeeds.
+#[derive(Drop)]
+pub struct Engine {
+    pub(crate) table: [u32; Shape::WORDS_MOST],
+    pub(crate) used: usize,
+}
+
+// The words of work space for the largest table.
+pub const WORK: usize = Work::WORDS * Cell::MOST;
+
+impl Model for Engine {
+    ghost Value = { List ℕ };
+
+    ghost view = { λ e. take e.used e.table };
+
+    ghost invariant = { λ e. e.used ≤ word_count (four (cells_most Four)) };
+}
+
+// Answer, kind and value: numbers, since `scripts::run`, `reading::read` and `setup::set_up` give those of the C interface.
 #[derive(Clone, Copy)]
 pub struct Said {
-    pub used: usize,
     pub answer: u32,
     pub kind: u32,
     pub value: u32,
 }
 
-pub fn open_table(table: &mut [u32], used: usize, n: u32) -> Said
-    requires table_len { length table.old ≡ word_count (four (cells_most Four)) }
-    requires used_in_bounds { used ≤ length table.old }
-    ensures { Says (opening (take used table.old) (opened n)) result table.new }
-{
-    let s = Shape::four(n as usize);
-    let words = s.words();
-    if !table::fits(s, words) {
-        return Said {
-            used,
-            answer: Answer::TABLE_SIZE,
-            kind: Kind::NOTHING,
+impl Said {
+    // An answer with nothing more to say.
+    pub(crate) fn plain(answer: u32) -> Said
+        ensures { result ≡ plain answer }
+    {
+        Said {
+            answer,
+            kind: u32::from(Kind::Nothing),
             value: 0,
-        };
-    }
-    let answer = setup::set_up(&mut table[0..words], n);
-    Said {
-        used: words,
-        answer,
-        kind: Kind::NOTHING,
-        value: 0,
+        }
     }
 }
 
-// One operation: a script of four words.
-pub fn operate(
-    table: &mut [u32],
-    used: usize,
-    work: &mut [u32],
-    code: u32,
-    a: u32,
-    b: u32,
-    v: u32,
-) -> Said
-    requires { (used ≤ length table.old) × (length work.old ≡ work_most) }
-    ensures { Says (operated (performing (take used table.old) code a b v)) result table.new }
-{
-    let script = [code, a, b, v];
-    let mut results = [Kind::NOTHING, 0];
-    let r = scripts::run(&mut table[0..used], work, &script, &mut results);
-    Said {
-        used,
-        answer: r.answer,
-        kind: results[0],
-        value: results[1],
+impl Engine {
+    pub fn new() -> Engine
+        ensures { result ≡ [] }
+    {
+        Engine {
+            table: [0; Shape::WORDS_MOST],
+            used: 0,
+        }
     }
-}
 
-// READ's text stands in the line from a place on; it goes through lent bytes, where it is filled.
-pub fn read_text(
-    line: &[u8],
-    at: usize,
-    table: &mut [u32],
-    used: usize,
-    work: &mut [u32],
-    page: &mut [u8],
-    h: u32,
-) -> Said
-    requires line_len_bound { (length line.now ≤ line_most) × (line_room ≤ length page.old) }
-    requires used_in_bounds { (used ≤ length table.old) × (length work.old ≡ work_most) }
-    ensures { Says (took (reading_of (take used table.old) h (drop at line.now))) result table.new }
-{
-    let n = fill_text(line, at, page);
-    let r = reading::read(Stored::Text, &mut table[0..used], work, h, &page[0..n]);
-    Said {
-        used,
-        answer: r.answer,
-        kind: Kind::NOTHING,
-        value: 0,
+    pub(crate) fn open(&mut self, n: u32) -> Said
+        ensures { Says (opening self.old (opened n)) result self.new }
+    {
+        let s = Shape::four(n as usize);
+        let words = s.words();
+        if !table::fits(s, words) {
+            return Said::plain(u32::from(Refusal::TableSize));
+        }
+        let answer = setup::set_up(&mut self.table[..words], n);
+        self.used = words;
+        Said::plain(answer)
+    }
+
+    // One operation: a script of four words.
+    pub(crate) fn operate(
+        &mut self,
+        work: &mut [u32; WORK],
+        code: Code,
+        a: u32,
+        b: u32,
+        v: u32,
+    ) -> Said
+        ensures { Says (operated (performing self.old (code_no code) a b v)) result self.new }
+    {
+        let script = [u32::from(code), a, b, v];
+        let mut results = [u32::from(Kind::Nothing), 0];
+        let table = &mut self.table[..self.used];
+        let r = scripts::run(table, work, &script, &mut results);
+        Said {
+            answer: r.answer,
+            kind: results[0],
+            value: results[1],
+        }
+    }
+
+    // READ's text goes through lent bytes, where it is filled.
+    pub(crate) fn read(
+        &mut self,
+        work: &mut [u32; WORK],
+        h: u32,
+        text: &[u8],
+        page: &mut [u8],
+    ) -> Said
+        requires { (length text.now ≤ line_most) × (line_room ≤ length page.old) }
+        ensures { Says (took (reading_of self.old h text.now)) result self.new }
+    {
+        let n = fill_record(text, page);
+        let table = &mut self.table[..self.used];
+        let r = reading::read(Stored::Text, table, work, h, &page[..n]);
+        Said::plain(r.answer)
     }
 }

@@ -10,12 +10,9 @@ fn count_free(s: Shape, t: &[u32]) -> u32
     requires { Table s t.now }
     ensures { result ≡ frees (view s t.now).cells }
 {
-    let n = s.cells;
     let mut free = 0;
-    let mut c = 0;
-    while c < n {
-        free += sound::one_if_none(table::count_of(s, t, c + 1));
-        c += 1;
+    for c in 0..s.cells {
+        free += u32::from(table::count_of(s, t, c + 1) == 0);
     }
     free
 }

@@ -1,3 +1,6 @@
 pub mod Answers
 pub mod Codes
 pub mod Laws
+pub mod Operations
+pub mod Outcomes
+pub mod Refusals

@@ -1,101 +1,22 @@
-// The numbers that the calls go by: answers, codes of operations, kinds of results, and the answer of a call with the
-// number beside it.
+// What the calls say: why one is refused, the codes of operations, what an operation tells, and the answer of a call with
+// the number beside it.
 
 #![tactic(auto)]
 
 ghost use Rattle.std.specs.Prelude.{◌≡◌};
 ghost use Rattle.answers.specs.Answers.{DONE, refused, done, outcome, moved, not_moved};
+ghost use Rattle.answers.specs.Outcomes.{outcome_of, stopped_of, moved_of};
+ghost use Rattle.answers.specs.Refusals.{refusal_no};
 
-#[derive(Clone, Copy)]
-pub struct Answer(pub u32);
+pub mod code;
+pub mod refusal;
+pub mod told;
 
-impl Answer {
-    pub const DONE: u32 = 0;
+pub use code::Code;
+pub use refusal::Refusal;
+pub use told::{Kind, Told};
 
-    pub const TABLE_SIZE: u32 = 1;
-
-    pub const WORK_SPACE: u32 = 2;
-
-    pub const SCRIPT: u32 = 3;
-
-    pub const RESULTS: u32 = 4;
-
-    pub const UNSOUND: u32 = 5;
-
-    pub const CODE: u32 = 6;
-
-    pub const HOLDER: u32 = 7;
-
-    pub const SAME: u32 = 8;
-
-    pub const NULL: u32 = 9;
-
-    pub const OCCUPIED: u32 = 10;
-
-    pub const SHARED: u32 = 11;
-
-    pub const NO_ROOM: u32 = 12;
-
-    pub const TEXT_SIZE: u32 = 13;
-
-    pub const END: u32 = 14;
-
-    pub const NOT_A_LIST: u32 = 15;
-
-    pub const ATOM: u32 = 16;
-
-    pub const DEEP: u32 = 17;
-
-    pub const OUTPUT: u32 = 18;
-
-    pub const GROUPS: u32 = 19;
-}
-
-// The codes of the operations.
-#[derive(Clone, Copy)]
-pub struct Code(pub u32);
-
-impl Code {
-    pub const PFA: u32 = 1;
-
-    pub const PFL: u32 = 2;
-
-    pub const DECAP: u32 = 3;
-
-    pub const ADV: u32 = 4;
-
-    pub const BORROW: u32 = 5;
-
-    pub const ERASE: u32 = 6;
-
-    pub const INV: u32 = 7;
-
-    pub const CINV: u32 = 8;
-
-    pub const CONC: u32 = 9;
-
-    pub const FIRST: u32 = 10;
-
-    pub const LENGTH: u32 = 11;
-
-    pub const LAST: u32 = Code::LENGTH;
-}
-
-// The kinds of results.
-#[derive(Clone, Copy)]
-pub struct Kind(pub u32);
-
-impl Kind {
-    pub const ATOM: u32 = 0;
-
-    pub const LIST: u32 = 1;
-
-    pub const NUMBER: u32 = 2;
-
-    pub const NOTHING: u32 = 3;
-}
-
-// An answer, and operations done, bytes taken or bytes written.
+// An answer, and operations done, bytes taken or bytes written. Numbers, as C has them: the rest of the engine gives a Result.
 #[repr(C)]
 #[derive(Clone, Copy)]
 pub struct Outcome {
@@ -104,30 +25,74 @@ pub struct Outcome {
 }
 
 impl Outcome {
-    pub fn refused(answer: u32) -> Outcome
-        ensures { result ≡ refused answer }
+    // No refusal has this number.
+    pub const DONE: u32 = 0;
+
+    pub fn refused(refusal: Refusal) -> Outcome
+        ensures { result ≡ refused (refusal_no refusal) }
     {
-        Outcome { answer, count: 0 }
+        Outcome::stopped(refusal, 0)
     }
 
     pub fn done(count: u32) -> Outcome
         ensures { result ≡ done count }
     {
         Outcome {
-            answer: Answer::DONE,
+            answer: Outcome::DONE,
             count,
         }
     }
 
     // A script that stops at an operation gives the number of those done before it.
-    pub fn stopped(answer: u32, count: u32) -> Outcome
-        ensures { result ≡ outcome answer count }
+    pub fn stopped(refusal: Refusal, count: u32) -> Outcome
+        ensures { result ≡ outcome (refusal_no refusal) count }
     {
-        Outcome { answer, count }
+        Outcome {
+            answer: u32::from(refusal),
+            count,
+        }
     }
 }
 
-// An answer, the bytes taken of one stored form and the bytes written of the other.
+// What a call says that was done, or why it was refused.
+impl From<Result<u32, Refusal>> for Outcome {
+    ghost from_gives = { λ r o. o ≡ outcome_of r };
+
+    fn from(r: Result<u32, Refusal>) -> Outcome {
+        match r {
+            Ok(count) => Outcome::done(count),
+            Err(refusal) => Outcome::refused(refusal),
+        }
+    }
+}
+
+// A refusal in the midst of a call, and what was done before it.
+#[derive(Clone, Copy, Debug, PartialEq, Eq)]
+pub struct Stopped {
+    pub refusal: Refusal,
+    pub count: u32,
+}
+
+impl From<Refusal> for Stopped {
+    ghost from_gives = { λ r s. (s.refusal ≡ r) × (s.count ≡ 0) };
+
+    fn from(refusal: Refusal) -> Stopped {
+        Stopped { refusal, count: 0 }
+    }
+}
+
+impl From<Result<u32, Stopped>> for Outcome {
+    ghost from_gives = { λ r o. o ≡ stopped_of r };
+
+    fn from(r: Result<u32, Stopped>) -> Outcome {
+        match r {
+            Ok(count) => Outcome::done(count),
+            Err(s) => Outcome::stopped(s.refusal, s.count),
+        }
+    }
+}
+
+// An answer, the bytes taken of one stored form and the bytes written of the other. Numbers, as C has them.
 #[repr(C)]
 #[derive(Clone, Copy)]
 pub struct Moved {
@@ -137,11 +102,11 @@ pub struct Moved {
 }
 
 impl Moved {
-    pub fn refused(answer: u32) -> Moved
-        ensures { result ≡ not_moved answer }
+    pub fn refused(refusal: Refusal) -> Moved
+        ensures { result ≡ not_moved (refusal_no refusal) }
     {
         Moved {
-            answer,
+            answer: u32::from(refusal),
             taken: 0,
             written: 0,
         }
@@ -151,9 +116,27 @@ impl Moved {
         ensures { result ≡ moved DONE taken written }
     {
         Moved {
-            answer: Answer::DONE,
+            answer: Outcome::DONE,
             taken,
             written,
+        }
+    }
+}
+
+// The bytes taken of one stored form and written of the other.
+#[derive(Clone, Copy, Debug, PartialEq, Eq)]
+pub struct Passed {
+    pub taken: u32,
+    pub written: u32,
+}
+
+impl From<Result<Passed, Refusal>> for Moved {
+    ghost from_gives = { λ r m. m ≡ moved_of r };
+
+    fn from(r: Result<Passed, Refusal>) -> Moved {
+        match r {
+            Ok(p) => Moved::done(p.taken, p.written),
+            Err(refusal) => Moved::refused(refusal),
         }
     }
 }

@@ -2,20 +2,28 @@
 use Rattle.std.specs.Prelude.{◌≡◌, cond, List, [], ◌∷◌, ℕ, ◌≤◌, eqb}
 use Rattle.cells.specs.Range.{Spare}
 use Rattle.table.specs.declared.Shape.{Shape}
-use Rattle.table.specs.View.{view, Shows}
+use Rattle.table.specs.View.{view, IsCell, Shows}
 use Rattle.building.specs.Build.{Open, Link, in_holder, in_next, in_elem}
 use Rattle.building.specs.Reading.{hang, hang_new}
 use Rattle.building.specs.declared.hook.Hook.{Hook}
+use Rattle.building.specs.declared.hook.Hook.TheVariants.{Next, Elem}
 
 abbrev pub link_of : Hook → Link
-link_of k = cond (eqb k.cell 0) in_holder (cond (eqb k.inside 0) (in_next k.cell) (in_elem k.cell))
+link_of (Next c) = cond (eqb c 0) in_holder (in_next c)
+link_of (Elem c) = in_elem c
 
--- behind the cell c, and inside it
-abbrev pub hook_next : ℕ → Hook
-hook_next c = record { cell = c; inside = 0 }
+-- the holder's, for which the successor of cell 0 stands
+abbrev pub hook_holder : Hook
+hook_holder = Next 0
 
-abbrev pub hook_elem : ℕ → Hook
-hook_elem c = record { cell = c; inside = 1 }
+abbrev pub hook_cell : Hook → ℕ
+hook_cell (Next c) = c
+hook_cell (Elem c) = c
+
+-- it is in the table
+abbrev pub InTable : Shape → Hook → Type 0
+InTable s (Next c) = c ≤ s.cells
+InTable s (Elem c) = IsCell s c
 
 -- the cells of the open lists, innermost first; the outermost list has none, and 0 stands for it
 unfoldable pub open_cells : List Open → List ℕ
@@ -24,7 +32,7 @@ open_cells (o ∷ os) = o.cell ∷ open_cells os
 
 -- what a new cell at the hook asks, and what it does
 pub record Hangs (s : Shape) (h : ℕ) (ts : List ℕ) (k : Hook) : Type 0 where
-  pub hook : k.cell ≤ s.cells
+  pub hook : InTable s k
   pub spare : Spare s (hang (link_of k) h (view s ts).free (view s ts))
 
 pub record Hung (s : Shape) (h : ℕ) (ts : List ℕ) (k : Hook) (kind elem : ℕ) (us : List ℕ) (c : ℕ) : Type 0 where

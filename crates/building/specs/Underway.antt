@@ -7,7 +7,7 @@ use Rattle.table.specs.declared.Shape.{Shape}
 use Rattle.table.specs.View.{view, Table}
 use Rattle.text.specs.Marks.{Mark, opened, shut, value, marks_of}
 use Rattle.building.specs.Build.{Open}
-use Rattle.building.specs.Hooks.{link_of, open_cells}
+use Rattle.building.specs.Hooks.{link_of, hook_cell, open_cells}
 use Rattle.building.specs.Reading.{Reading}
 use Rattle.building.specs.declared.hook.Hook.{Hook}
 
@@ -50,7 +50,7 @@ pub record Steps (s : Shape) (h : ℕ) (ts : List ℕ) (k : Hook) (cs : List ℕ
 
 -- a list begins, and its cell is that of the new hook
 abbrev pub BeginsList : Shape → ℕ → List ℕ → Hook → List ℕ → Hook → Type 0
-BeginsList s h ts k us j = (cs : List ℕ) → Steps s h ts k cs (opened ∷ []) us j (j.cell ∷ cs)
+BeginsList s h ts k us j = (cs : List ℕ) → Steps s h ts k cs (opened ∷ []) us j (hook_cell j ∷ cs)
 
 -- an atom v
 abbrev pub AddsAtom : ℕ → Shape → ℕ → List ℕ → Hook → List ℕ → Hook → Type 0

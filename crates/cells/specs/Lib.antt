@@ -1,2 +1,5 @@
+pub mod Lent
+pub mod Views
+pub mod Asked
 pub mod Range
 pub mod Laws

@@ -2,41 +2,34 @@
 
 #![tactic(auto)]
 
-ghost use Rattle.std.specs.Prelude.{◌≡◌, ◌≤◌};
-ghost use Rattle.answers.specs.Answers.{unless};
+ghost use Rattle.std.specs.Prelude.{◌≡◌, ◌≤◌, IfOk};
+ghost use Rattle.answers.specs.Refusals.{answer_no};
 ghost use Rattle.calls.specs.Entry.{entry_fault};
-ghost use Rattle.entry.specs.declared.Entry.TheVariants.{Open, Refused};
 ghost use Rattle.table.specs.Sizes.{shape_of};
 
-use answers::Answer;
+use answers::Refusal;
 use table::{Form, Shape};
 
+// Work space: the words for each cell that a script run, reading and writing need.
 #[derive(Clone, Copy)]
-pub enum Entry {
-    Open(Shape),
-    Refused(u32),
-}
-
-// Work space: the words for each cell that a script run, reading and writing need, and the most that any call does.
-#[derive(Clone, Copy)]
-pub struct Work(pub usize);
+pub struct Work;
 
 impl Work {
     pub const WORDS: usize = 2;
 }
 
 // For a call that is lent some words of work space and needs so many for each cell.
-pub fn enter(f: Form, table: &[u32], lent: usize, words: usize) -> Entry
+pub fn enter(f: Form, table: &[u32], lent: usize, words: usize) -> Result<Shape, Refusal>
     requires { words ≤ 4 }
-    ensures { result ≡ unless (entry_fault words f table.now lent) Refused (Open (shape_of f table.now)) }
+    ensures refused { answer_no result ≡ entry_fault words f table.now lent }
+    ensures entered { IfOk result (λ s. s ≡ shape_of f table.now) }
 {
     let s = table::shape_of(f, table);
-    let n = s.cells;
-    if n == 0 {
-        return Entry::Refused(Answer::TABLE_SIZE);
+    if s.cells == 0 {
+        return Err(Refusal::TableSize);
     }
-    if lent < words * n {
-        return Entry::Refused(Answer::WORK_SPACE);
+    if lent < words * s.cells {
+        return Err(Refusal::WorkSpace);
     }
-    Entry::Open(s)
+    Ok(s)
 }

@@ -1,6 +1,5 @@
 -- Erasing in code: the state of the loops, what a step asks and gives, and what following the successors gives.
-use Rattle.std.specs.Prelude.{◌≡◌, Bool, false, List, ℕ, ◌+◌, ◌≤◌, eqb, length}
-use Rattle.table.specs.declared.Shape.{Shape}
+use Rattle.std.specs.Prelude.{◌≡◌, Bool, false, ℕ, ◌+◌, ◌≤◌, eqb, length}
 use Rattle.erasing.specs.declared.Erasing.{Erasing}
 use Rattle.loops.specs.Loop.{choose, steps, Ends, Going}
 use Rattle.pool.specs.Erase.{Dropping, total, dropped, stepped}
@@ -9,7 +8,8 @@ use Rattle.pool.specs.Pool.{Pool, count_of}
 use Rattle.pool.specs.Setters.{put_free, celled}
 use Rattle.pool.specs.Laws.SoundLaws.{none_aside}
 use Rattle.pool.specs.Tally.{same}
-use Rattle.table.specs.View.{greatest_count, view, Table}
+use Rattle.table.specs.View.{greatest_count}
+use Rattle.cells.specs.Lent.{Lent, Kept}
 
 unfoldable pub halted : Dropping → Bool
 halted w = choose (eqb w.here 0) (eqb w.waiting 0) false
@@ -23,34 +23,30 @@ pub record Fine (m : ℕ) (w : Dropping) : Type 0 where
   pub counted : 1 ≤ w.here → 1 ≤ count_of w.cells w.here
   pub small : count_of w.cells w.here ≤ m
 
-abbrev pub state : Shape → List ℕ → Erasing → Dropping
-state s ws e =
-    let p = view s ws in
-    record { free = p.free; cells = p.cells; here = e.here; waiting = e.waiting; freed = e.freed }
+abbrev pub state : Lent → Erasing → Dropping
+state v e = record { free = v.pool.free; cells = v.pool.cells; here = e.here; waiting = e.waiting; freed = e.freed }
 
--- ws and e stand for w, and the holders are hs
-pub record Does (s : Shape) (ws : List ℕ) (e : Erasing) (hs : List ℕ) (w : Dropping) : Type 0 where
-  pub table : Table s ws
-  pub held : (view s ws).holders ≡ hs
-  pub is : state s ws e ≡ w
+-- u is v but for cells and free chain, and u and e stand for w
+pub record Does (v u : Lent) (e : Erasing) (w : Dropping) : Type 0 where
+  pub kept : Kept v u
+  pub is : state u e ≡ w
 
--- from ws and e erasing ends, and each step finds what it asks
-pub record ErasingEnds (s : Shape) (ws : List ℕ) (e : Erasing) : Type 0 where
+-- from v and e erasing ends, and each step finds what it asks
+pub record ErasingEnds (v : Lent) (e : Erasing) : Type 0 where
   pub turns : ℕ
-  pub ends : Ends halted stepped (Fine (greatest_count s)) turns (state s ws e)
+  pub ends : Ends halted stepped (Fine (greatest_count v.shape)) turns (state v e)
 
 -- v is on the way from w: what holds of erasing from w holds of erasing from v, and no more steps are left
-pub record Later (m : ℕ) (w v : Dropping) : Type 0 where
-  pub on : (k : ℕ) (w₀ : Dropping) → Going halted stepped (Fine m) k w₀ w → Going halted stepped (Fine m) k w₀ v
-  pub fewer : (k : ℕ) (w₀ : Dropping) → Going halted stepped (Fine m) k w₀ w
+pub record Later (w v : Dropping) : Type 0 where
+  pub on : (m k : ℕ) (w₀ : Dropping) → Going halted stepped (Fine m) k w₀ w → Going halted stepped (Fine m) k w₀ v
+  pub fewer : (m k : ℕ) (w₀ : Dropping) → Going halted stepped (Fine m) k w₀ w
       → steps halted stepped k v ≤ steps halted stepped k w
 
--- us and f are where erasing from ws and e comes to an end
-pub record AtAnEnd (s : Shape) (ws : List ℕ) (e : Erasing) (us : List ℕ) (f : Erasing) : Type 0 where
-  pub table : Table s us
-  pub held : (view s us).holders ≡ (view s ws).holders
+-- u and f are where erasing from v and e comes to an end
+pub record AtAnEnd (v : Lent) (e : Erasing) (u : Lent) (f : Erasing) : Type 0 where
+  pub kept : Kept v u
   pub end : f.here ≡ 0
-  pub later : Later (greatest_count s) (state s ws e) (state s us f)
+  pub later : Later (state v e) (state u f)
 
 -- the arrow to x is still to be dropped
 abbrev pub dropping_at : Pool → ℕ → Dropping

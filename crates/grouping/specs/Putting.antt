@@ -4,7 +4,7 @@ use Rattle.std.specs.Prelude.{ℕ, ◌≤◌, ◌≡◌, ◌≢◌, List, ◌++�
 use Rattle.std.proofs.Math.Seq.{paste}
 use Rattle.groups.specs.Groups.{groups_of}
 use Rattle.groups.specs.Writing.{Item}
-use Rattle.grouping.specs.declared.walk.Walk.{Walk}
+use Rattle.walks.specs.declared.walk.Walk.{Walk}
 use Rattle.grouping.specs.Items.{bytes_in}
 use Rattle.grouping.specs.Steps.{atom_in, list_in, ending, Turn}
 use Rattle.grouping.specs.Walking.{Walking}

@@ -1,15 +1,16 @@
 -- One turn of the walk through a list, as the code makes it: the end of a list, an atom's number, or a list's; and
 -- where the walk then stands.
-use Rattle.std.specs.Prelude.{ℕ, ◌+◌, ◌-◌, ◌*◌, ◌≤◌, ◌<◌, ◌≡◌, ◌≢◌, cond, List, [], ◌∷◌, eqb, length, get_or, set}
+use Rattle.std.specs.Prelude.{ℕ, ◌+◌, ◌*◌, ◌≤◌, ◌<◌, ◌≡◌, ◌≢◌, cond, List, [], ◌∷◌, eqb, length}
 use Rattle.groups.specs.Groups.{number, atom_number}
 use Rattle.groups.specs.Writing.{Item, item}
-use Rattle.grouping.specs.declared.walk.Walk.{Walk}
 use Rattle.pool.specs.Operations.{span}
-use Rattle.pool.specs.Pool.{Cell, kind_of, elem_of, next_of}
+use Rattle.pool.specs.Pool.{Cell, kind_of, elem_of}
 use Rattle.pool.specs.Laws.Level.{Left}
 use Rattle.table.specs.declared.Shape.{Shape}
 use Rattle.table.specs.View.{IsCell}
 use Rattle.text.specs.Limits.{levels, text_most}
+use Rattle.walks.specs.declared.walk.Walk.{Walk}
+use Rattle.walks.specs.Steps.{shut_at, pass_at, open_at, kept_at}
 
 -- the elements of the list at x, and its number
 abbrev pub elements_at : List Cell → ℕ → ℕ
@@ -24,26 +25,6 @@ atom_in cs x = atom_number (elem_of cs x)
 
 abbrev pub list_in : List Cell → ℕ → ℕ
 list_in cs x = list_number_at cs (elem_of cs x)
-
-abbrev pub walk : ℕ → ℕ → ℕ → Walk
-walk x d k = record { at = x; depth = d; size = k }
-
-abbrev pub shut_at : List ℕ → Walk → Walk
-shut_at after w = walk (get_or after (w.depth - 1) 0) (w.depth - 1) w.size
-
--- past a number that ends at `end`
-abbrev pub pass_at : List Cell → Walk → ℕ → Walk
-pass_at cs w end = walk (next_of cs w.at) w.depth end
-
-abbrev pub open_at : List Cell → Walk → ℕ → Walk
-open_at cs w end = walk (elem_of cs w.at) (w.depth + 1) end
-
--- the cell with which the level goes on is kept
-abbrev pub kept_at : List Cell → List ℕ → Walk → List ℕ
-kept_at cs after w = set after w.depth (next_of cs w.at)
-
-abbrev pub Opened : List Cell → List ℕ → Walk → ℕ → List ℕ → Walk → Type 0
-Opened cs after w end next r = (r ≡ open_at cs w end) × (next ≡ kept_at cs after w)
 
 -- 1 for a turn on the outermost level
 abbrev pub bottom : Walk → ℕ

@@ -3,7 +3,7 @@
 use Rattle.std.specs.Prelude.{ℕ, suc, ◌+◌, ◌-◌, ◌*◌, ◌≤◌, ◌<◌, ◌≡◌, List, [], ◌∷◌, ◌++◌, length, drop}
 use Rattle.groups.specs.Groups.{groups_of}
 use Rattle.groups.specs.Writing.{Item, items_at, items, judged}
-use Rattle.grouping.specs.declared.walk.Walk.{Walk}
+use Rattle.walks.specs.declared.walk.Walk.{Walk}
 use Rattle.grouping.specs.Items.{bytes_in, Shallow}
 use Rattle.grouping.specs.Steps.{bottom}
 use Rattle.lists.specs.Lst.{Lst, len}

@@ -1,3 +1,4 @@
+pub mod Recelling
 pub mod TurningLaws
 pub mod CopyingLaws
 pub mod Beside

@@ -1,3 +1,4 @@
+pub mod Recelled
 pub mod Turning
 pub mod Copying
 pub mod Joining

@@ -1,57 +1,59 @@
 // CINV: a reversed copy of a main level in new cells, its lists borrowed.
-ghost use Rattle.std.specs.Prelude.{◌≡◌, ◌≢◌, ◌≤◌, ◌<◌};
+ghost use Rattle.std.specs.Prelude.{◌≡◌, ◌≤◌, length};
+ghost use Rattle.cells.specs.Asked.{OnTwo};
+ghost use Rattle.cells.specs.Lent.{on};
 ghost use Rattle.pool.specs.Operations.{with_twin, cinv, length_of};
-ghost use Rattle.pool.specs.Pool.{holder, frees, Sound};
+ghost use Rattle.pool.specs.Pool.{holder, frees};
 ghost use Rattle.pool.specs.Setters.{celled};
-ghost use Rattle.table.specs.View.{holder_count, view, Table, Shows};
 ghost use Rattle.levels.specs.Copying.{Copyable, Copies, made, placed};
 
-use table::Shape;
+use cells::lent::Pool;
 
 // Free cell f becomes the copy of cell x before y.
-fn twin(s: Shape, t: &mut [u32], f: usize, x: usize, y: usize)
-    requires table { Table s t.old }
-    requires copyable { Copyable (holder_count s) (view s t.old).cells f x y }
-    ensures { Shows s t.new
-        (celled (with_twin f (view s t.old).cells x y) (view s t.old)) }
+#[inline(always)]
+fn twin(p: &mut Pool, f: usize, x: usize, y: usize)
+    requires { Copyable (length p.old.pool.holders) p.old.pool.cells f x y }
+    ensures { p.new ≡ on (λ q. celled (with_twin f q.cells x y) q) p.old }
 {
-    let kind = table::kind_of(s, t, x);
-    let elem = table::elem_of(s, t, x);
-    let e = cells::item_of(s, t, x);
-    cells::share(s, t, e);
-    table::set_cell(s, t, f, kind, elem, 1, y);
+    p.sizes();
+    let kind = p.kind_of(x);
+    let elem = p.elem_of(x);
+    let e = p.item_of(x);
+    p.share(e);
+    p.set_cell(f, kind, elem, 1, y);
 }
 
 // Copies the cells from x on in reverse, and gives the first cell of the copy.
-fn copy(s: Shape, t: &mut [u32], x: usize) -> usize
-    requires table { Table s t.old }
-    requires copies { Copies (holder_count s) (view s t.old) x }
-    ensures { (result ≡ (made (view s t.old) x).head)
-        × Shows s t.new (placed (made (view s t.old) x) (view s t.old)) }
+#[inline(always)]
+fn copy(p: &mut Pool, x: usize) -> usize
+    requires { Copies (length p.old.pool.holders) p.old.pool x }
+    ensures { (result ≡ (made p.old.pool x).head) × (p.new ≡ on (placed (made p.old.pool x)) p.old) }
 {
-    let mut free = table::free_head(s, t);
+    let mut free = p.free_head();
     let mut left = x;
     let mut head = 0;
     while left != 0 {
-        let next = table::next_of(s, t, left);
-        let rest = table::next_of(s, t, free);
-        twin(s, t, free, left, head);
+        p.sizes();
+        let next = p.next_of(left);
+        let rest = p.next_of(free);
+        twin(p, free, left, head);
         head = free;
         free = rest;
         left = next;
     }
-    table::set_free(s, t, free);
+    p.sizes();
+    p.set_free(free);
     head
 }
 
-pub fn cinv(s: Shape, t: &mut [u32], a: usize, b: usize)
-    requires table { Table s t.old }
-    requires a_bound { (a < holder_count s) × (b < holder_count s) × (a ≢ b) }
-    requires sound { Sound (view s t.old) }
-    requires b_value { (holder (view s t.old) b ≡ 0) × (length_of (view s t.old) a ≤ frees (view s t.old).cells) }
-    ensures { Shows s t.new (cinv (view s t.old) a b) }
+#[inline(always)]
+pub fn cinv(p: &mut Pool, a: usize, b: usize)
+    requires asked { OnTwo p.old a b }
+    requires b_value { (holder p.old.pool b ≡ 0) × (length_of p.old.pool a ≤ frees p.old.pool.cells) }
+    ensures { p.new ≡ on (λ q. cinv q a b) p.old }
 {
-    let x = table::holder_of(s, t, a);
-    let head = copy(s, t, x);
-    table::set_holder(s, t, b, head);
+    let x = p.holder_of(a);
+    let head = copy(p, x);
+    p.sizes();
+    p.set_holder(b, head);
 }

@@ -1,30 +1,27 @@
 // CONC: one main level joined after another.
-ghost use Rattle.std.specs.Prelude.{◌≢◌, ◌<◌};
+ghost use Rattle.std.specs.Prelude.{◌≡◌};
+ghost use Rattle.cells.specs.Asked.{OnTwo};
+ghost use Rattle.cells.specs.Lent.{on};
 ghost use Rattle.levels.specs.Joining.{Joins};
 ghost use Rattle.pool.specs.Operations.{conc};
-ghost use Rattle.pool.specs.Pool.{Sound};
-ghost use Rattle.table.specs.View.{holder_count, view, Table, Shows};
 
-use table::Shape;
+use cells::lent::Pool;
 
 // The list of b after that of a, whose last cell is known from the walk that tested it.
-pub fn conc(s: Shape, t: &mut [u32], a: usize, b: usize, last: usize)
-    requires table { Table s t.old }
-    requires a_bound { (a < holder_count s) × (b < holder_count s) × (a ≢ b) }
-    requires sound { Sound (view s t.old) }
-    requires joins { Joins (view s t.old) a b last }
-    ensures { Shows s t.new (conc (view s t.old) a b) }
+#[inline(always)]
+pub fn conc(p: &mut Pool, a: usize, b: usize, last: usize)
+    requires asked { OnTwo p.old a b }
+    requires joins { Joins p.old.pool a b last }
+    ensures { p.new ≡ on (λ q. conc q a b) p.old }
 {
-    let y = table::holder_of(s, t, b);
+    let y = p.holder_of(b);
     if y == 0 {
         return;
     }
-    let x = table::holder_of(s, t, a);
-    if x == 0 {
-        table::set_holder(s, t, a, y);
-        table::set_holder(s, t, b, 0);
-        return;
+    if p.holder_of(a) == 0 {
+        p.set_holder(a, y);
+    } else {
+        p.set_next(last, y);
     }
-    table::set_next(s, t, last, y);
-    table::set_holder(s, t, b, 0);
+    p.set_holder(b, 0);
 }

@@ -1,47 +1,47 @@
--- What the code's values stand for: a place in a line for the bytes from there on, a buffer and a length for the bytes
--- kept.
-use Rattle.std.specs.Prelude.{◌≡◌, false, cond, List, [], ◌∷◌, ℕ, ◌+◌, ◌-◌, ◌≤◌, length, drop, take}
+-- What the code's values stand for.
+use Rattle.std.specs.Prelude.{◌≡◌, List, [], ℕ, ◌+◌, ◌-◌, ◌<◌, length, drop, take, Option, Some, None}
+use Rattle.std.specs.Borrow.{Bor}
 use Rattle.std.proofs.lemmas.List.Edits.{sets}
-use Rattle.lines.specs.declared.gather.Gathered.{Gathered}
-use Rattle.lines.specs.declared.number.Found.{Found}
-use Rattle.lines.specs.declared.number.Found.TheVariants.{Number, Nothing}
+use Rattle.answers.specs.declared.code.Code.{Code}
+use Rattle.answers.specs.Operations.{code_no}
 use Rattle.lines.specs.declared.order.Order.{Order}
-use Rattle.lines.specs.declared.order.Order.TheVariants.{Malformed, New, Operation, Reading, Writing}
-use Rattle.lines.specs.Numbers.{Start, number, none, allowed}
-use Rattle.lines.specs.Splitting.{Gathering, line_most, ready, eaten}
-use Rattle.lines.specs.Commands.{Command, malformed, new, operation, reading, writing}
+use Rattle.lines.specs.declared.order.Order.TheVariants.{New, Operation, Reading, Writing}
+use Rattle.lines.specs.Numbers.{Start, number, none}
+use Rattle.lines.specs.Splitting.{Line, line, long, Part, going, ended, eaten}
+use Rattle.lines.specs.Commands.{Name, Command, malformed, new, operation, reading, writing}
 
-abbrev pub found : List ℕ → Found → Start
-found s (Number v end) = number v (drop end s)
-found s Nothing = none
+-- a number and the bytes behind it, or a number that ends the bytes
+abbrev pub found : Option (ℕ × Bor (List ℕ)) → Start
+found (Some (v, rest)) = number v rest.now
+found None = none
 
--- a number v of n digits that ends at a place
-abbrev pub within : ℕ → ℕ → ℕ → Found
-within n v end = cond (allowed n v) (Number v end) Nothing
+abbrev pub found_last : Option ℕ → Start
+found_last (Some v) = number v []
+found_last None = none
 
-abbrev pub meant : List ℕ → Order → Command
-meant s Malformed = malformed
-meant s (New n) = new n
-meant s (Operation c a b v) = operation c a b v
-meant s (Reading h at) = reading h (drop at s)
-meant s (Writing h) = writing h
+abbrev pub named : Option (Code × Bor (List ℕ)) → Option Name
+named (Some (c, rest)) = Some (record { code = code_no c; rest = rest.now })
+named None = None
+
+abbrev pub meant : Option Order → Command
+meant None = malformed
+meant (Some (New n)) = new n
+meant (Some (Operation c a b v)) = operation (code_no c) a b v
+meant (Some (Reading h text)) = reading h text.now
+meant (Some (Writing h)) = writing h
 
 -- bytes stored from a place on, and the place behind them
 pub record Puts (bs : List ℕ) (at : ℕ) (old : List ℕ) (end : ℕ) (new : List ℕ) : Type 0 where
   pub place : end ≡ at + length bs
   pub bytes : new ≡ sets old at bs
 
--- a line that is ready, or the bytes of one so far
-abbrev pub stands : List ℕ → Gathered → Gathering
-stands bs g =
-    cond g.ready
-    (record { lines = ready (take g.len bs) g.over ∷ []; kept = []; over = false })
-    (record { lines = []; kept = take g.len bs; over = g.over })
+-- a line that has ended: its bytes, or nothing where it was too long
+abbrev pub line_is : Option (Bor (List ℕ)) → Line
+line_is (Some bs) = line bs.now
+line_is None = long
 
--- from g on, the bytes of a chunk up to the end of a line or of the chunk have been taken
-pub record Gathers (chunk old : List ℕ) (g : Gathered) (r : Gathered) (new : List ℕ) : Type 0 where
-  pub is : stands new r ≡ eaten (stands old g) (take (r.at - g.at) (drop g.at chunk))
-  pub low : g.at ≤ r.at
-  pub high : r.at ≤ length chunk
-  pub short : r.len ≤ line_most
-  pub all : r.ready ≡ false → r.at ≡ length chunk
+-- bytes of a chunk up to the end of a line have been taken in, and the rest stands behind them
+pub record Ends (chunk : List ℕ) (old : Part) (rest : List ℕ) (new : Part) : Type 0 where
+  pub is : ended new ≡ eaten (going old) (take (length chunk - length rest) chunk)
+  pub behind : rest ≡ drop (length chunk - length rest) chunk
+  pub some : length rest < length chunk

@@ -1,5 +1,5 @@
 -- Decimal numbers in a line, of at most ten digits and 32 bits, and what may stand behind one.
-use Rattle.std.specs.Prelude.{Bool, cond, ◌&&◌, List, [], ◌∷◌, ℕ, ◌+◌, ◌*◌, ◌-◌, eqb, leb, ltb, length, drop}
+use Rattle.std.specs.Prelude.{Bool, cond, ◌&&◌, List, [], ◌∷◌, ℕ, ◌+◌, ◌*◌, ◌-◌, eqb, leb, ltb, length, drop, take_while}
 
 abbrev pub digits_most : ℕ
 digits_most = 10
@@ -14,9 +14,8 @@ abbrev pub is_digit_byte : ℕ → Bool
 is_digit_byte c = leb 48 c && leb c 57
 
 -- the digits at the start, and what stands behind them
-unfoldable pub digits : List ℕ → List ℕ
-digits [] = []
-digits (c ∷ s) = cond (is_digit_byte c) (c ∷ digits s) []
+abbrev pub digits : List ℕ → List ℕ
+digits s = take_while is_digit_byte s
 
 abbrev pub past : List ℕ → List ℕ
 past s = drop (length (digits s)) s

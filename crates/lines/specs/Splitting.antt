@@ -36,8 +36,24 @@ pub record Gathering : Type 0 where
 abbrev pub nothing : Gathering
 nothing = record { lines = []; kept = []; over = false }
 
+-- of one line its bytes so far, and whether there were more
+pub record Part : Type 0 where
+  pub kept : List ℕ
+  pub over : Bool
+
+abbrev pub empty : Part
+empty = record { kept = []; over = false }
+
+-- no line is whole yet
+abbrev pub going : Part → Gathering
+going p = record { lines = []; kept = p.kept; over = p.over }
+
 abbrev pub ready : List ℕ → Bool → Line
 ready ks o = cond o long (line ks)
+
+-- this line is whole
+abbrev pub ended : Part → Gathering
+ended p = record { lines = ready p.kept p.over ∷ []; kept = []; over = false }
 
 abbrev pub eat : Gathering → ℕ → Gathering
 eat g c =

@@ -1,74 +1,87 @@
 // Input in chunks, gathered into lines. A line feed ends one, and bytes past the limit only mark it as too long.
-ghost use Rattle.std.specs.Prelude.{◌≡◌, false, ◌+◌, ◌^◌, ◌≤◌, ◌<◌, length};
-ghost use Rattle.lines.specs.Splitting.{line_most, eat};
-ghost use Rattle.lines.specs.Meaning.{stands, Gathers};
+ghost use Rattle.std.specs.Prelude.{◌≡◌, ◌≢◌, ◌==◌, ◌≤◌, length, take, MatchOption, IfSome};
+ghost use Rattle.lines.specs.Printed.{line_feed};
+ghost use Rattle.lines.specs.Splitting.{line_most, Part, empty, going, ready, eat, eaten};
+ghost use Rattle.lines.specs.Meaning.{line_is, Ends};
 
-#[derive(Clone, Copy)]
-pub struct Line(pub usize);
+use std::marker::Model;
+
+// The bytes of a line so far, and whether there were more than it can have.
+#[derive(Drop)]
+pub struct Line {
+    bytes: [u8; Line::MOST],
+    len: usize,
+    over: bool,
+}
+
+impl Model for Line {
+    ghost Value = { Part };
+
+    ghost view = { λ l. record { kept = take l.len l.bytes; over = l.over } };
+
+    ghost invariant = { λ l. l.len ≤ line_most };
+}
 
 impl Line {
     pub const MOST: usize = 200;
-}
 
-// The place in the chunk, the bytes of the line so far, whether there were more than it can have, and whether it is
-// whole.
-#[derive(Clone, Copy)]
-pub struct Gathered {
-    pub at: usize,
-    pub len: usize,
-    pub over: bool,
-    pub ready: bool,
-}
-
-// One byte into a line.
-fn take_byte(line: &mut [u8], g: Gathered, b: u8) -> Gathered
-    requires line_len { length line.old ≡ line_most }
-    requires len_le_line_most { (g.len ≤ line_most) × (g.ready ≡ false) }
-    requires at_bound { g.at + 1 < 2 ^ 64 }
-    ensures { (stands line.new result ≡ eat (stands line.old g) b)
-        × (result.at ≡ g.at + 1)
-        × (result.len ≤ line_most) }
-{
-    let at = g.at + 1;
-    let len = g.len;
-    if b == b'\n' {
-        return Gathered {
-            at,
-            len,
-            over: g.over,
-            ready: true,
-        };
-    }
-    if len < Line::MOST {
-        line[len] = b;
-        return Gathered {
-            at,
-            len: len + 1,
-            over: g.over,
-            ready: false,
-        };
-    }
-    Gathered {
-        at,
-        len,
-        over: true,
-        ready: false,
-    }
-}
-
-// The bytes of a chunk up to the end of a line or of the chunk.
-pub fn gather(chunk: &[u8], line: &mut [u8], from: Gathered) -> Gathered
-    requires line_len { length line.old ≡ line_most }
-    requires len_le_line_most { (from.len ≤ line_most) × (from.ready ≡ false) × (from.at ≤ length chunk.now) }
-    ensures { Gathers chunk.now line.old from result line.new }
-{
-    let mut g = from;
-    while g.at < chunk.len() {
-        let at = g.at;
-        g = take_byte(line, g, chunk[at]);
-        if g.ready {
-            return g;
+    pub fn new() -> Line
+        ensures { result ≡ empty }
+    {
+        Line {
+            bytes: [0; Line::MOST],
+            len: 0,
+            over: false,
         }
     }
-    g
+
+    pub fn is_empty(&self) -> bool
+        ensures { result ≡ (length self.now.kept == 0) }
+    {
+        self.len == 0
+    }
+
+    // The bytes of a line that has ended; nothing where it was too long.
+    pub fn bytes(&self) -> Option<&[u8]>
+        ensures line { line_is result ≡ ready self.now.kept self.now.over }
+        ensures short { IfSome result (λ s. length s.now ≤ line_most) }
+    {
+        if self.over {
+            return None;
+        }
+        Some(&self.bytes[..self.len])
+    }
+
+    pub fn clear(&mut self)
+        ensures { self.new ≡ empty }
+    {
+        self.len = 0;
+        self.over = false;
+    }
+
+    fn push(&mut self, b: u8)
+        requires { b ≢ line_feed }
+        ensures { going self.new ≡ eat (going self.old) b }
+    {
+        if self.len < Line::MOST {
+            self.bytes[self.len] = b;
+            self.len += 1;
+        } else {
+            self.over = true;
+        }
+    }
+
+    // Takes in a chunk up to the end of the line. Gives what stands behind it, or nothing where the chunk ends first.
+    pub fn gather<'a>(&mut self, chunk: &'a [u8]) -> Option<&'a [u8]>
+        ensures { MatchOption result (going self.new ≡ eaten (going self.old) chunk.now)
+            (λ rest. Ends chunk.now self.old rest.now self.new) }
+    {
+        for (i, b) in chunk.iter().enumerate() {
+            if *b == b'\n' {
+                return Some(&chunk[i + 1..]);
+            }
+            self.push(*b);
+        }
+        None
+    }
 }

@@ -1,174 +1,96 @@
 // What a line asks for: the line's start is compared with fixed names, then come the numbers.
-ghost use Rattle.std.specs.Prelude.{◌≡◌, drop};
+ghost use Rattle.std.specs.Prelude.{◌≡◌, None};
+ghost use Rattle.answers.specs.Operations.{code_no};
 ghost use Rattle.lines.specs.Numbers.{number_in, parted, ended};
-ghost use Rattle.lines.specs.Commands.{starts_with, name, name_or, name_of_two, name_of_one, with_two, with_one};
-ghost use Rattle.lines.specs.Commands.{new_in, reading_in, writing_in, operation_in, command};
-ghost use Rattle.lines.specs.Meaning.{meant};
+ghost use Rattle.lines.specs.Commands.{name_or, name_of_two, name_of_one, with_two, with_one, reading_in, command};
+ghost use Rattle.lines.specs.Meaning.{named, meant};
 
-use crate::number::{Found, last_number, number_and_blank};
+use crate::number::{last_number, number_and_blank};
 use answers::Code;
 
-// READ's text starts at a place of the line.
+// READ's text is a part of the line.
 #[derive(Clone, Copy)]
-pub enum Order {
-    Malformed,
+pub enum Order<'a> {
     New(u32),
-    Operation(u32, u32, u32, u32),
-    Reading(u32, usize),
+    Operation(Code, u32, u32, u32),
+    Reading(u32, &'a [u8]),
     Writing(u32),
 }
 
-// An operation that is named, with the length of its name and blank; code 0 where none is.
-#[derive(Clone, Copy)]
-pub struct Name {
-    pub code: u32,
-    pub long: usize,
-}
-
-impl Name {
-    fn new(code: u32, long: usize) -> Name
-        ensures { result ≡ name code long }
-    {
-        Name { code, long }
-    }
-}
-
-fn starts(line: &[u8], name: &[u8]) -> bool
-    ensures { result ≡ starts_with name.now line.now }
+// The operation, and what stands behind its name and blank, where the line starts with them.
+fn name<'a>(line: &'a [u8], name: &[u8], code: Code) -> Option<(Code, &'a [u8])>
+    ensures { named result ≡ name_or name.now (code_no code) line.now None }
 {
-    let mut i = 0;
-    while i < name.len() {
-        if line.len() <= i {
-            return false;
-        }
-        if name[i] != line[i] {
-            return false;
-        }
-        i += 1;
-    }
-    true
-}
-
-// The name that the line starts with, unless one was found before.
-fn named(line: &[u8], name: &[u8], code: u32, found: Name) -> Name
-    ensures { result ≡ name_or name.now code line.now found }
-{
-    if found.code != 0 {
-        return found;
-    }
-    if starts(line, name) {
-        return Name::new(code, name.len());
-    }
-    found
+    Some((code, line.strip_prefix(name)?))
 }
 
 // The operations that take two numbers.
-fn name_of_two(line: &[u8]) -> Name
-    ensures { result ≡ name_of_two line.now }
+fn name_of_two(line: &[u8]) -> Option<(Code, &[u8])>
+    ensures { named result ≡ name_of_two line.now }
 {
-    let n = Name::new(0, 0);
-    let n = named(line, b"PFA ", Code::PFA, n);
-    let n = named(line, b"PFL ", Code::PFL, n);
-    let n = named(line, b"DECAP ", Code::DECAP, n);
-    let n = named(line, b"ADV ", Code::ADV, n);
-    let n = named(line, b"BORROW ", Code::BORROW, n);
-    let n = named(line, b"CINV ", Code::CINV, n);
-    named(line, b"CONC ", Code::CONC, n)
+    name(line, b"PFA ", Code::Pfa)
+        .or_else(|| name(line, b"PFL ", Code::Pfl))
+        .or_else(|| name(line, b"DECAP ", Code::Decap))
+        .or_else(|| name(line, b"ADV ", Code::Adv))
+        .or_else(|| name(line, b"BORROW ", Code::Borrow))
+        .or_else(|| name(line, b"CINV ", Code::Cinv))
+        .or_else(|| name(line, b"CONC ", Code::Conc))
 }
 
 // The operations that take one number.
-fn name_of_one(line: &[u8]) -> Name
-    ensures { result ≡ name_of_one line.now }
+fn name_of_one(line: &[u8]) -> Option<(Code, &[u8])>
+    ensures { named result ≡ name_of_one line.now }
 {
-    let n = Name::new(0, 0);
-    let n = named(line, b"ERASE ", Code::ERASE, n);
-    let n = named(line, b"INV ", Code::INV, n);
-    let n = named(line, b"FIRST ", Code::FIRST, n);
-    named(line, b"LENGTH ", Code::LENGTH, n)
+    name(line, b"ERASE ", Code::Erase)
+        .or_else(|| name(line, b"INV ", Code::Inv))
+        .or_else(|| name(line, b"FIRST ", Code::First))
+        .or_else(|| name(line, b"LENGTH ", Code::Length))
 }
 
-// Two numbers from a place on: a, and v for PFA or b for the others.
-fn two(line: &[u8], code: u32, at: usize) -> Order
-    ensures { meant line.now result ≡ with_two code (parted (number_in (drop at line.now))) }
+// Two numbers: a, and v for PFA or b for the others.
+fn two(line: &[u8], code: Code) -> Option<Order<'_>>
+    ensures { meant result ≡ with_two (code_no code) (parted (number_in line.now)) }
 {
-    let Found::Number(a, next) = number_and_blank(line, at) else {
-        return Order::Malformed;
-    };
-    let Found::Number(x, _) = last_number(line, next) else {
-        return Order::Malformed;
-    };
-    if code == Code::PFA {
-        return Order::Operation(code, a, 0, x);
-    }
-    Order::Operation(code, a, x, 0)
+    let (a, rest) = number_and_blank(line)?;
+    let x = last_number(rest)?;
+    Some(match code {
+        Code::Pfa => Order::Operation(code, a, 0, x),
+        _ => Order::Operation(code, a, x, 0),
+    })
 }
 
-fn one(line: &[u8], code: u32, at: usize) -> Order
-    ensures { meant line.now result ≡ with_one code (ended (number_in (drop at line.now))) }
+fn one(line: &[u8], code: Code) -> Option<Order<'_>>
+    ensures { meant result ≡ with_one (code_no code) (ended (number_in line.now)) }
 {
-    let Found::Number(a, _) = last_number(line, at) else {
-        return Order::Malformed;
-    };
-    Order::Operation(code, a, 0, 0)
+    Some(Order::Operation(code, last_number(line)?, 0, 0))
 }
 
-fn setting_up(line: &[u8], at: usize) -> Order
-    ensures { meant line.now result ≡ new_in (ended (number_in (drop at line.now))) }
+fn reading(line: &[u8]) -> Option<Order<'_>>
+    ensures { meant result ≡ reading_in (parted (number_in line.now)) }
 {
-    let Found::Number(n, _) = last_number(line, at) else {
-        return Order::Malformed;
-    };
-    Order::New(n)
+    let (h, text) = number_and_blank(line)?;
+    if text.is_empty() {
+        return None;
+    }
+    Some(Order::Reading(h, text))
 }
 
-fn reading(line: &[u8], at: usize) -> Order
-    ensures { meant line.now result ≡ reading_in (parted (number_in (drop at line.now))) }
+// What a line of at most 200 bytes asks for; nothing where it is malformed.
+pub fn parse(line: &[u8]) -> Option<Order<'_>>
+    ensures { meant result ≡ command line.now }
 {
-    let Found::Number(h, text) = number_and_blank(line, at) else {
-        return Order::Malformed;
-    };
-    if text < line.len() {
-        return Order::Reading(h, text);
+    if let Some(rest) = line.strip_prefix(b"NEW ") {
+        return Some(Order::New(last_number(rest)?));
     }
-    Order::Malformed
-}
-
-fn writing(line: &[u8], at: usize) -> Order
-    ensures { meant line.now result ≡ writing_in (ended (number_in (drop at line.now))) }
-{
-    let Found::Number(h, _) = last_number(line, at) else {
-        return Order::Malformed;
-    };
-    Order::Writing(h)
-}
-
-fn operation(line: &[u8]) -> Order
-    ensures { meant line.now result
-        ≡ operation_in (name_of_two line.now) (name_of_one line.now) line.now }
-{
-    let n = name_of_two(line);
-    if n.code != 0 {
-        return two(line, n.code, n.long);
+    if let Some(rest) = line.strip_prefix(b"READ ") {
+        return reading(rest);
     }
-    let m = name_of_one(line);
-    if m.code != 0 {
-        return one(line, m.code, m.long);
+    if let Some(rest) = line.strip_prefix(b"WRITE ") {
+        return Some(Order::Writing(last_number(rest)?));
     }
-    Order::Malformed
-}
-
-// What a line of at most 200 bytes asks for.
-pub fn parse(line: &[u8]) -> Order
-    ensures { meant line.now result ≡ command line.now }
-{
-    if starts(line, b"NEW ") {
-        return setting_up(line, 4);
+    if let Some((code, rest)) = name_of_two(line) {
+        return two(rest, code);
     }
-    if starts(line, b"READ ") {
-        return reading(line, 5);
-    }
-    if starts(line, b"WRITE ") {
-        return writing(line, 6);
-    }
-    operation(line)
+    let (code, rest) = name_of_one(line)?;
+    one(rest, code)
 }

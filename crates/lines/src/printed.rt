@@ -1,4 +1,5 @@
-// The bytes of a reply. Each function stores from a place on and gives the place behind what it stored.
+// The bytes of a reply. Each function stores from a place on and gives the place behind what it stored. They are put by
+// hand, since `write!` to bytes lent promises no bytes: its contract says nothing of an Err, and none rules one out.
 ghost use Rattle.std.specs.Prelude.{[], ◌∷◌, ◌+◌, ◌*◌, ◌≤◌, ◌<◌, length};
 ghost use Rattle.lines.specs.Numbers.{digits_most};
 ghost use Rattle.lines.specs.Printed.{decimal, column, reply, question};
@@ -7,7 +8,7 @@ ghost use Rattle.lines.specs.Meaning.{Puts};
 use crate::number::Digits;
 
 #[derive(Clone, Copy)]
-pub struct Reply(pub usize);
+pub struct Reply;
 
 impl Reply {
     // four numbers and the byte behind each

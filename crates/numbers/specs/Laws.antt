@@ -3,3 +3,4 @@ pub mod SeveralLaws
 pub mod NumberedLaws
 pub mod PuttingLaws
 pub mod BitLaws
+pub mod GroupLaws

@@ -2,12 +2,12 @@
 
 #![tactic(auto)]
 
-ghost use Rattle.std.specs.Prelude.{◌≡◌, ◌+◌, ◌≤◌, ◌<◌, length, get_or};
+ghost use Rattle.std.specs.Prelude.{IsSome, ◌≡◌, ◌+◌, ◌≤◌, ◌<◌, length, get_or};
 ghost use Rattle.std.proofs.Math.Seq.{paste};
 ghost use Rattle.groups.specs.Groups.{numbers_end, number};
-ghost use Rattle.numbers.specs.Numbers.{none, number_in, ended};
+ghost use Rattle.numbers.specs.Numbers.{number_in, ended};
 
-// The number, and the place behind it: 0 where no well-formed number begins.
+// A number, and the place behind it.
 #[derive(Clone, Copy)]
 pub struct Number {
     pub value: u64,
@@ -16,93 +16,109 @@ pub struct Number {
 
 impl Number {
     // Numbers lie below 2^33.
-    pub const END: u64 = 8589934592;
-
-    pub fn values_end() -> u64
-        ensures { result ≡ numbers_end }
-    {
-        Number::END
-    }
-
-    fn none() -> Number
-        ensures { result ≡ none }
-    {
-        Number { value: 0, end: 0 }
-    }
+    const END: u64 = 8589934592;
 }
 
-// Groups that come to a value. A last group of 0 is one too many.
-fn ended(value: u64, group: u8, end: usize) -> Number
-    ensures { result ≡ ended value group end }
+// What groups come to, the last of them, and the place behind it.
+#[derive(Clone, Copy)]
+struct Sum {
+    value: u64,
+    last: u64,
+    end: usize,
+}
+
+// A last group of 0 is one too many.
+fn judged(sum: Sum) -> Option<Number>
+    ensures { result ≡ ended sum.value sum.last sum.end }
 {
-    if group == 0 {
-        return Number::none();
+    if sum.last == 0 || sum.value >= Number::END {
+        return None;
     }
-    if value < Number::END {
-        return Number { value, end };
-    }
-    Number::none()
+    Some(Number {
+        value: sum.value,
+        end: sum.end,
+    })
 }
 
 // The byte at a place. Behind the last it is 0, which as a last group is one too many.
-fn byte(bytes: &[u8], at: usize) -> u8
-    ensures { result ≡ get_or bytes.now at 0 }
+fn byte(bytes: &[u8], at: usize) -> u64
+    ensures { (result ≡ get_or bytes.now at 0) × (result < 256) }
 {
-    if at < bytes.len() {
-        return bytes[at];
-    }
-    0
+    u64::from(bytes.get(at).copied().unwrap_or(0))
 }
 
 // A number whose first group is not the last. Whether a further group belongs to it is a 0 or 1 in a sum, and no branch:
 // among numbers of mixed sizes it would be mispredicted. With a sixth group the sum is 2^33 or more.
-fn several(bytes: &[u8], at: usize) -> Number
-    requires at_in_bounds { at < length bytes.now }
-    requires bound { 128 ≤ get_or bytes.now at 0 }
-    ensures { result ≡ number_in bytes.now at }
+fn several(bytes: &[u8], at: usize) -> Sum
+    requires { 128 ≤ get_or bytes.now at 0 }
+    ensures { ended result.value result.last result.end ≡ number_in bytes.now at }
 {
-    let second = byte(bytes, at + 1) as u64;
-    let third = byte(bytes, at + 2) as u64;
-    let fourth = byte(bytes, at + 3) as u64;
+    let first = byte(bytes, at);
+    let second = byte(bytes, at + 1);
+    let third = byte(bytes, at + 2);
+    let fourth = byte(bytes, at + 3);
     let has_third = second / 128;
     // half of the sum of two such is their product, and quicker
     let has_fourth = (has_third + third / 128) / 2;
     let has_fifth = (has_fourth + fourth / 128) / 2;
     let last = at + 1 + (has_third + has_fourth + has_fifth) as usize;
-    let low = bytes[at] as u64 % 128 + second % 128 * 128;
+    let low = first % 128 + second % 128 * 128;
     let middle = has_third * (third % 128 * 16384) + has_fourth * (fourth % 128 * 2097152);
-    let high = has_fifth * (byte(bytes, at + 4) as u64 * 268435456);
-    ended(low + middle + high, byte(bytes, last), last + 1)
+    let high = has_fifth * (byte(bytes, at + 4) * 268435456);
+    Sum {
+        value: low + middle + high,
+        last: byte(bytes, last),
+        end: last + 1,
+    }
 }
 
 // The number that begins at a place. Most are one group.
-pub fn number_at(bytes: &[u8], at: usize) -> Number
+pub fn number_at(bytes: &[u8], at: usize) -> Option<Number>
     ensures { result ≡ number_in bytes.now at }
 {
-    if at >= bytes.len() {
-        return Number::none();
+    let group = *bytes.get(at)?;
+    if group < 128 {
+        return Some(Number {
+            value: u64::from(group),
+            end: at + 1,
+        });
     }
+    judged(several(bytes, at))
+}
+
+// The number that is known to begin at a place. By `number_at` and `unwrap`, which tests again, reading groups takes a
+// seventh longer.
+pub fn number_there(bytes: &[u8], at: usize) -> Number
+    requires { IsSome (number_in bytes.now at) }
+    ensures { Some result ≡ number_in bytes.now at }
+{
     let group = bytes[at];
     if group < 128 {
         return Number {
-            value: group as u64,
+            value: u64::from(group),
             end: at + 1,
         };
     }
-    several(bytes, at)
+    let sum = several(bytes, at);
+    Number {
+        value: sum.value,
+        end: sum.end,
+    }
 }
 
-// The bytes of a number, by its highest bit: without a branch that a run of numbers would mislead.
+// The bytes of a number, by its highest bit: without a branch that a run of numbers would mislead. Numbers below 2^33 have no
+// type of their own: who puts one makes it there by a doubling, and a type would say no more.
 pub fn size(v: u64) -> usize
     requires { v < numbers_end }
     ensures { result ≡ length (number v) }
 {
-    // seven bits to a group, rounded up; of 0 as of 1
+    // seven bits to a group, rounded up, of 0 as of 1: `div_ceil` would look at the remainder too, and is slower
     let odd = v / 2 * 2 + 1;
-    ((70 - u64::leading_zeros(odd)) / 7) as usize
+    ((70 - odd.leading_zeros()) / 7) as usize
 }
 
-// A number in its place; what is given is the place behind it.
+// A number in its place; what is given is the place behind it. No `for`: it would need the size first, and the last group
+// is put in another way than those before it.
 pub fn put(out: &mut [u8], at: usize, v: u64) -> usize
     requires v_lt_numbers_end { v < numbers_end }
     requires v_in_bounds { at + length (number v) ≤ length out.old }

@@ -19,9 +19,9 @@ const EIGHT: u32 = 16777216;
 pub fn count(v: u32) -> usize
     ensures { (result ≡ length (numeral v)) × (1 ≤ result) × (result ≤ digits_most) }
 {
-    // three bits to a digit, by the highest; of 0 as of 1
+    // three bits to a digit, rounded up; of 0 as of 1
     let odd = v / 2 * 2 + 1;
-    ((31 - u32::leading_zeros(odd)) / 3 + 1) as usize
+    ((34 - odd.leading_zeros()) / 3) as usize
 }
 
 // The last two digits of a number.
@@ -75,7 +75,8 @@ fn few(out: &mut [u8], at: usize, v: u32) -> usize
     4
 }
 
-// An atom: its first digits, up to four, and then four or eight at a time. What is given is how many.
+// An atom: its first digits, up to four, and then four or eight at a time. What is given is how many. For the writer, which
+// still stores the digits first (`writing::atoms::put_atom`, request A3).
 pub fn put(out: &mut [u8], at: usize, v: u32) -> usize
     requires { at + length (numeral v) ≤ length out.old }
     ensures value { result ≡ length (numeral v) }

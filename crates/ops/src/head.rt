@@ -1,81 +1,66 @@
 // The operations at the head of a list.
-ghost use Rattle.std.specs.Prelude.{◌≢◌, ℕ, ◌<◌};
+ghost use Rattle.std.specs.Prelude.{ℕ};
+ghost use Rattle.cells.specs.Asked.{OnOne, OnTwo};
 ghost use Rattle.ops.specs.Replies.{operation, Gives};
-ghost use Rattle.pool.specs.Pool.{Sound};
 ghost use Rattle.pool.specs.Script.{PFA, PFL, DECAP, BORROW, FIRST};
-ghost use Rattle.table.specs.View.{holder_count, view, Table};
 
-use super::{Reply, tests};
-use answers::{Answer, Kind};
-use table::Shape;
+use super::tests;
+use answers::{Refusal, Told};
+use cells::lent::Pool;
 
-pub fn pfa(s: Shape, t: &mut [u32], a: usize, v: u32) -> Reply
-    requires table { Table s t.old }
-    requires a_bound { a < holder_count s }
-    requires sound { Sound (view s t.old) }
-    ensures { (b : ℕ) → Gives s t.new result (view s t.old) (operation PFA a b v) }
+pub fn pfa(p: &mut Pool, a: usize, v: u32) -> Result<Told, Refusal>
+    requires { OnOne p.old a }
+    ensures { (b : ℕ) → Gives p.old p.new result (operation PFA a b v) }
 {
-    if tests::is_full(s, t) {
-        return Reply::Refused(Answer::NO_ROOM);
+    if tests::is_full(p) {
+        return Err(Refusal::NoRoom);
     }
-    heads::pfa(s, t, a, v);
-    Reply::Done(Kind::NOTHING, 0)
+    heads::pfa(p, a, v);
+    Ok(Told::Nothing)
 }
 
-pub fn pfl(s: Shape, t: &mut [u32], a: usize, b: usize) -> Reply
-    requires table { Table s t.old }
-    requires a_bound { (a < holder_count s) × (b < holder_count s) × (a ≢ b) }
-    requires sound { Sound (view s t.old) }
-    ensures { (v : ℕ) → Gives s t.new result (view s t.old) (operation PFL a b v) }
+pub fn pfl(p: &mut Pool, a: usize, b: usize) -> Result<Told, Refusal>
+    requires { OnTwo p.old a b }
+    ensures { (v : ℕ) → Gives p.old p.new result (operation PFL a b v) }
 {
-    if tests::is_full(s, t) {
-        return Reply::Refused(Answer::NO_ROOM);
+    if tests::is_full(p) {
+        return Err(Refusal::NoRoom);
     }
-    heads::pfl(s, t, a, b);
-    Reply::Done(Kind::NOTHING, 0)
+    heads::pfl(p, a, b);
+    Ok(Told::Nothing)
 }
 
-pub fn decap(s: Shape, t: &mut [u32], a: usize, b: usize) -> Reply
-    requires table { Table s t.old }
-    requires a_bound { (a < holder_count s) × (b < holder_count s) × (a ≢ b) }
-    requires sound { Sound (view s t.old) }
-    ensures { (v : ℕ) → Gives s t.new result (view s t.old) (operation DECAP a b v) }
+pub fn decap(p: &mut Pool, a: usize, b: usize) -> Result<Told, Refusal>
+    requires { OnTwo p.old a b }
+    ensures { (v : ℕ) → Gives p.old p.new result (operation DECAP a b v) }
 {
-    let refusal = tests::parting(s, t, a, b);
-    if refusal != Answer::DONE {
-        return Reply::Refused(refusal);
+    tests::parting(p, a, b)?;
+    let x = p.holder_of(a);
+    if p.count_of(x) > 1 {
+        return Err(Refusal::Shared);
     }
-    let x = table::holder_of(s, t, a);
-    if table::count_of(s, t, x) > 1 {
-        return Reply::Refused(Answer::SHARED);
-    }
-    let e = heads::first(s, t, a);
-    heads::decap(s, t, a, b);
-    Reply::Done(e.kind, e.value)
+    let e = heads::first(p, a);
+    heads::decap(p, a, b);
+    Ok(e)
 }
 
-pub fn borrow(s: Shape, t: &mut [u32], a: usize, b: usize) -> Reply
-    requires table { Table s t.old }
-    requires a_bound { (a < holder_count s) × (b < holder_count s) × (a ≢ b) }
-    requires sound { Sound (view s t.old) }
-    ensures { (v : ℕ) → Gives s t.new result (view s t.old) (operation BORROW a b v) }
+pub fn borrow(p: &mut Pool, a: usize, b: usize) -> Result<Told, Refusal>
+    requires { OnTwo p.old a b }
+    ensures { (v : ℕ) → Gives p.old p.new result (operation BORROW a b v) }
 {
-    if tests::is_occupied(s, t, b) {
-        return Reply::Refused(Answer::OCCUPIED);
+    if tests::is_occupied(p, b) {
+        return Err(Refusal::Occupied);
     }
-    heads::borrow(s, t, a, b);
-    Reply::Done(Kind::NOTHING, 0)
+    heads::borrow(p, a, b);
+    Ok(Told::Nothing)
 }
 
-pub fn first(s: Shape, t: &mut [u32], a: usize) -> Reply
-    requires table { Table s t.old }
-    requires a_bound { a < holder_count s }
-    requires sound { Sound (view s t.old) }
-    ensures { (b v : ℕ) → Gives s t.new result (view s t.old) (operation FIRST a b v) }
+pub fn first(p: &Pool, a: usize) -> Result<Told, Refusal>
+    requires { OnOne p.now a }
+    ensures { (b v : ℕ) → Gives p.now p.now result (operation FIRST a b v) }
 {
-    if tests::is_null(s, t, a) {
-        return Reply::Refused(Answer::NULL);
+    if tests::is_null(p, a) {
+        return Err(Refusal::Null);
     }
-    let e = heads::first(s, t, a);
-    Reply::Done(e.kind, e.value)
+    Ok(heads::first(p, a))
 }

@@ -1,66 +1,56 @@
 // The operations on a main level.
-ghost use Rattle.std.specs.Prelude.{◌≢◌, ℕ, ◌<◌};
+ghost use Rattle.std.specs.Prelude.{ℕ};
+ghost use Rattle.cells.specs.Asked.{OnOne, OnTwo};
 ghost use Rattle.ops.specs.Replies.{operation, Gives};
-ghost use Rattle.pool.specs.Pool.{Sound};
 ghost use Rattle.pool.specs.Script.{INV, CINV, CONC, LENGTH};
-ghost use Rattle.table.specs.View.{holder_count, view, Table};
 
-use super::{Reply, tests};
-use answers::{Answer, Kind};
-use table::Shape;
+use super::tests;
+use answers::{Refusal, Told};
+use cells::lent::Pool;
 
-pub fn inv(s: Shape, t: &mut [u32], a: usize) -> Reply
-    requires table { Table s t.old }
-    requires a_bound { a < holder_count s }
-    requires sound { Sound (view s t.old) }
-    ensures { (b v : ℕ) → Gives s t.new result (view s t.old) (operation INV a b v) }
+pub fn inv(p: &mut Pool, a: usize) -> Result<Told, Refusal>
+    requires { OnOne p.old a }
+    ensures { (b v : ℕ) → Gives p.old p.new result (operation INV a b v) }
 {
-    if levels::walk::any_shared(s, t, a) {
-        return Reply::Refused(Answer::SHARED);
+    if levels::walk::any_shared(p, a) {
+        return Err(Refusal::Shared);
     }
-    levels::turn::inv(s, t, a);
-    Reply::Done(Kind::NOTHING, 0)
+    levels::turn::inv(p, a);
+    Ok(Told::Nothing)
 }
 
-pub fn cinv(s: Shape, t: &mut [u32], a: usize, b: usize) -> Reply
-    requires table { Table s t.old }
-    requires a_bound { (a < holder_count s) × (b < holder_count s) × (a ≢ b) }
-    requires sound { Sound (view s t.old) }
-    ensures { (v : ℕ) → Gives s t.new result (view s t.old) (operation CINV a b v) }
+pub fn cinv(p: &mut Pool, a: usize, b: usize) -> Result<Told, Refusal>
+    requires { OnTwo p.old a b }
+    ensures { (v : ℕ) → Gives p.old p.new result (operation CINV a b v) }
 {
-    if tests::is_occupied(s, t, b) {
-        return Reply::Refused(Answer::OCCUPIED);
+    if tests::is_occupied(p, b) {
+        return Err(Refusal::Occupied);
     }
-    if !levels::walk::fits(s, t, a) {
-        return Reply::Refused(Answer::NO_ROOM);
+    if !levels::walk::fits(p, a) {
+        return Err(Refusal::NoRoom);
     }
-    levels::copy::cinv(s, t, a, b);
-    Reply::Done(Kind::NOTHING, 0)
+    levels::copy::cinv(p, a, b);
+    Ok(Told::Nothing)
 }
 
-pub fn conc(s: Shape, t: &mut [u32], a: usize, b: usize) -> Reply
-    requires table { Table s t.old }
-    requires a_bound { (a < holder_count s) × (b < holder_count s) × (a ≢ b) }
-    requires sound { Sound (view s t.old) }
-    ensures { (v : ℕ) → Gives s t.new result (view s t.old) (operation CONC a b v) }
+pub fn conc(p: &mut Pool, a: usize, b: usize) -> Result<Told, Refusal>
+    requires { OnTwo p.old a b }
+    ensures { (v : ℕ) → Gives p.old p.new result (operation CONC a b v) }
 {
-    if tests::is_null(s, t, b) {
-        return Reply::Done(Kind::NOTHING, 0);
+    if tests::is_null(p, b) {
+        return Ok(Told::Nothing);
     }
-    let e = levels::walk::end_of(s, t, a);
-    if e.shared {
-        return Reply::Refused(Answer::SHARED);
-    }
-    levels::join::conc(s, t, a, b, e.last);
-    Reply::Done(Kind::NOTHING, 0)
+    let Some(last) = levels::walk::end_of(p, a) else {
+        return Err(Refusal::Shared);
+    };
+    levels::join::conc(p, a, b, last);
+    Ok(Told::Nothing)
 }
 
-pub fn length(s: Shape, t: &mut [u32], a: usize) -> Reply
-    requires table { Table s t.old }
-    requires a_bound { a < holder_count s }
-    requires sound { Sound (view s t.old) }
-    ensures { (b v : ℕ) → Gives s t.new result (view s t.old) (operation LENGTH a b v) }
+pub fn length(p: &Pool, a: usize) -> Result<Told, Refusal>
+    requires { OnOne p.now a }
+    ensures { (b v : ℕ) → Gives p.now p.now result (operation LENGTH a b v) }
 {
-    let n = levels::walk::length(s, t, a);
-    Reply::Done(Kind::NUMBER, n as u32)
+    let n = levels::walk::length(p, a);
+    Ok(Told::Number(n as u32))
 }

@@ -2,106 +2,80 @@
 
 #![tactic(auto)]
 
-ghost use Rattle.std.specs.Prelude.{◌≡◌, ◌&&◌, ℕ, leb};
+ghost use Rattle.std.specs.Prelude.{◌≡◌, ℕ, IfOk};
+ghost use Rattle.answers.specs.Operations.{code_no};
+ghost use Rattle.answers.specs.Refusals.{answer_no};
 ghost use Rattle.ops.specs.Replies.{operation, Gives};
 ghost use Rattle.ops.specs.Tests.{early};
 ghost use Rattle.pool.specs.Pool.{Sound};
-ghost use Rattle.pool.specs.Script.{PFA, last_code, uses_b};
+ghost use Rattle.pool.specs.Script.{uses_b};
 ghost use Rattle.pool.specs.Laws.ScriptLaws.{Opened};
-ghost use Rattle.table.specs.View.{holder_count, view, Table};
+ghost use Rattle.cells.specs.Lent.{Sized};
 
 pub mod drop;
 pub mod head;
 pub mod level;
 pub mod tests;
 
-use answers::{Answer, Code};
-use table::Shape;
-
-// What an operation answers: two result words, kind and value, or the number of its refusal.
-#[derive(Clone, Copy)]
-pub enum Reply {
-    Done(u32, u32),
-    Refused(u32),
-}
-
-fn is_code(code: u32) -> bool
-    ensures { result ≡ (leb PFA code && leb code last_code) }
-{
-    if code < Code::PFA {
-        return false;
-    }
-    code <= Code::LAST
-}
+use answers::{Code, Refusal, Told};
+use cells::lent::Pool;
 
 // Whether an operation uses b.
-fn uses_b(code: u32) -> bool
-    ensures { result ≡ uses_b code }
+fn uses_b(code: Code) -> bool
+    ensures { result ≡ uses_b (code_no code) }
 {
-    match code {
-        Code::PFL => true,
-        Code::DECAP => true,
-        Code::ADV => true,
-        Code::BORROW => true,
-        Code::CINV => true,
-        Code::CONC => true,
-        _ => false,
-    }
+    matches!(
+        code,
+        Code::Pfl | Code::Decap | Code::Adv | Code::Borrow | Code::Cinv | Code::Conc
+    )
 }
 
-// The tests that look at the words of the operation alone.
-fn early(s: Shape, code: u32, a: u32, b: u32) -> u32
-    ensures { (v : ℕ) → result ≡ early (holder_count s) (operation code a b v) }
+// The tests that look at the words of the operation alone, where there are n holders. Gives the operation that the
+// code names.
+#[tactic(auto, unfolding(crate::specs::Tests::early))]
+fn early(n: usize, code: u32, a: u32, b: u32) -> Result<Code, Refusal>
+    ensures answer { (v : ℕ) → answer_no result ≡ early n (operation code a b v) }
+    ensures named { IfOk result (λ c. code_no c ≡ code) }
 {
-    if !is_code(code) {
-        return Answer::CODE;
+    let named = Code::try_from(code)?;
+    let two = uses_b(named);
+    if a as usize >= n || (two && b as usize >= n) {
+        return Err(Refusal::Holder);
     }
-    if a as usize >= s.holders() {
-        return Answer::HOLDER;
+    if two && a == b {
+        return Err(Refusal::Same);
     }
-    if !uses_b(code) {
-        return Answer::DONE;
-    }
-    if b as usize >= s.holders() {
-        return Answer::HOLDER;
-    }
-    if a == b {
-        return Answer::SAME;
-    }
-    Answer::DONE
+    Ok(named)
 }
 
 // The operation that the code names, its words in order.
-fn dispatch(s: Shape, t: &mut [u32], code: u32, a: usize, b: usize, v: u32) -> Reply
-    requires table { Table s t.old }
-    requires sound { Sound (view s t.old) }
-    requires opened { Opened (view s t.old) (operation code a b v) }
-    ensures { Gives s t.new result (view s t.old) (operation code a b v) }
+fn dispatch(p: &mut Pool, code: Code, a: usize, b: usize, v: u32) -> Result<Told, Refusal>
+    requires sized { Sized p.old }
+    requires sound { Sound p.old.pool }
+    requires opened { Opened p.old.pool (operation (code_no code) a b v) }
+    ensures { Gives p.old p.new result (operation (code_no code) a b v) }
 {
     match code {
-        Code::PFA => head::pfa(s, t, a, v),
-        Code::PFL => head::pfl(s, t, a, b),
-        Code::DECAP => head::decap(s, t, a, b),
-        Code::ADV => drop::adv(s, t, a, b),
-        Code::BORROW => head::borrow(s, t, a, b),
-        Code::ERASE => drop::erase(s, t, a),
-        Code::INV => level::inv(s, t, a),
-        Code::CINV => level::cinv(s, t, a, b),
-        Code::CONC => level::conc(s, t, a, b),
-        Code::FIRST => head::first(s, t, a),
-        _ => level::length(s, t, a),
+        Code::Pfa => head::pfa(p, a, v),
+        Code::Pfl => head::pfl(p, a, b),
+        Code::Decap => head::decap(p, a, b),
+        Code::Adv => drop::adv(p, a, b),
+        Code::Borrow => head::borrow(p, a, b),
+        Code::Erase => drop::erase(p, a),
+        Code::Inv => level::inv(p, a),
+        Code::Cinv => level::cinv(p, a, b),
+        Code::Conc => level::conc(p, a, b),
+        Code::First => head::first(p, a),
+        Code::Length => level::length(p, a),
     }
 }
 
-// One operation on a sound table: any code, any words.
-pub fn perform(s: Shape, t: &mut [u32], code: u32, a: u32, b: u32, v: u32) -> Reply
-    requires table { Table s t.old }
-    requires sound { Sound (view s t.old) }
-    ensures { Gives s t.new result (view s t.old) (operation code a b v) }
+// One operation on a sound pool: any code, any words.
+pub fn perform(p: &mut Pool, code: u32, a: u32, b: u32, v: u32) -> Result<Told, Refusal>
+    requires { Sound p.old.pool }
+    ensures { Gives p.old p.new result (operation code a b v) }
 {
-    let refusal = early(s, code, a, b);
-    if refusal != Answer::DONE {
-        return Reply::Refused(refusal);
-    }
-    dispatch(s, t, code, a as usize, b as usize, v)
+    p.sizes();
+    let named = early(p.holders(), code, a, b)?;
+    dispatch(p, named, a as usize, b as usize, v)
 }

@@ -1,48 +1,47 @@
 // The tests that look at the holders and at the head of the free chain: 9, 10, and 12 where one cell is asked for.
 ghost use Rattle.std.specs.Prelude.{◌≡◌, not, ◌<◌, eqb, ltb};
+ghost use Rattle.answers.specs.Refusals.{answer_no};
 ghost use Rattle.ops.specs.Tests.{parting};
 ghost use Rattle.pool.specs.Pool.{holder, frees, Sound};
-ghost use Rattle.table.specs.View.{holder_count, view, Table};
+ghost use Rattle.table.specs.View.{holder_count};
 
-use answers::Answer;
-use table::Shape;
+use answers::Refusal;
+use cells::lent::Pool;
 
-pub fn is_null(s: Shape, t: &[u32], a: usize) -> bool
-    requires table { Table s t.now }
-    requires a_bound { a < holder_count s }
-    ensures { result ≡ eqb (holder (view s t.now) a) 0 }
+pub fn is_null(p: &Pool, a: usize) -> bool
+    requires { a < holder_count p.now.shape }
+    ensures { result ≡ eqb (holder p.now.pool a) 0 }
 {
-    table::holder_of(s, t, a) == 0
+    p.holder_of(a) == 0
 }
 
-pub fn is_occupied(s: Shape, t: &[u32], b: usize) -> bool
-    requires table { Table s t.now }
-    requires b_bound { b < holder_count s }
-    ensures { result ≡ not (eqb (holder (view s t.now) b) 0) }
+pub fn is_occupied(p: &Pool, b: usize) -> bool
+    requires { b < holder_count p.now.shape }
+    ensures { result ≡ not (eqb (holder p.now.pool b) 0) }
 {
-    table::holder_of(s, t, b) != 0
+    p.holder_of(b) != 0
 }
 
 // Both, where the first element of a goes to b: DECAP and ADV.
-pub fn parting(s: Shape, t: &[u32], a: usize, b: usize) -> u32
-    requires table { Table s t.now }
-    requires a_bound { (a < holder_count s) × (b < holder_count s) }
-    ensures { result ≡ parting (view s t.now) a b }
+#[tactic(auto, unfolding(crate::specs::Tests::parting))]
+pub fn parting(p: &Pool, a: usize, b: usize) -> Result<(), Refusal>
+    requires { (a < holder_count p.now.shape) × (b < holder_count p.now.shape) }
+    ensures { answer_no result ≡ parting p.now.pool a b }
 {
-    if is_null(s, t, a) {
-        return Answer::NULL;
+    if is_null(p, a) {
+        return Err(Refusal::Null);
     }
-    if is_occupied(s, t, b) {
-        return Answer::OCCUPIED;
+    if is_occupied(p, b) {
+        return Err(Refusal::Occupied);
     }
-    Answer::DONE
+    Ok(())
 }
 
 // Whether no cell is free.
-pub fn is_full(s: Shape, t: &[u32]) -> bool
-    requires table { Table s t.now }
-    requires sound { Sound (view s t.now) }
-    ensures { result ≡ ltb (frees (view s t.now).cells) 1 }
+#[tactic(auto, using(crate::specs::Laws::TestLaws::one_free))]
+pub fn is_full(p: &Pool) -> bool
+    requires { Sound p.now.pool }
+    ensures { result ≡ ltb (frees p.now.pool.cells) 1 }
 {
-    table::free_head(s, t) == 0
+    p.free_head() == 0
 }

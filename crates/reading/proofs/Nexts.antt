@@ -17,7 +17,10 @@ use Rattle.scan.specs.Places as places
 use Rattle.scan.specs.Places.{placed, too_long_atom, closed_at, Inside}
 use Rattle.scan.specs.Runs.{digit_run, numeral}
 use Rattle.scan.specs.declared.step.Place.{Place}
-use Rattle.scan.specs.declared.step.Step.TheVariants.{Mark, Fault}
+use Rattle.answers.specs.declared.refusal.Refusal.{Refusal}
+use Rattle.answers.specs.declared.refusal.Refusal.TheVariants.{NotAList, Atom, Deep}
+use Rattle.answers.specs.Refusals.{refusal_no}
+use Rattle.std.specs.Prelude.{Ok, Err}
 use Rattle.text.specs.Limits.{levels, atoms_end}
 use Rattle.text.specs.ListText.{is_digit_byte}
 use Rattle.text.specs.Laws.TextLaws.{decide}
@@ -52,8 +55,8 @@ module _ {s : List ℕ} {p : Place} (a : Amid s p) where
   pub here : Inside s p
   here = inside s a.taken p a.place a.deep
 
-  no_fault : {A : Type 0} (k : ℕ) → places.Taken s p (Fault k) → A
-  no_fault k w = refuted s a.taken k (sym a.place.answered ∙ w)
+  no_fault : {A : Type 0} (f : Refusal) → places.Taken s p (Err f) → A
+  no_fault f w = refuted s a.taken (refusal_no f) (sym a.place.answered ∙ w)
 
   abbrev inner : Place
   inner = placed (p.at + 1) (p.depth + 1) (p.elements + 1) true
@@ -61,8 +64,8 @@ module _ {s : List ℕ} {p : Place} (a : Amid s p) where
   pub opens : get_or s p.at 0 ≡ 40 → Goes s p inner
   opens q = go (leb levels p.depth) (taken_open here q)
     where
-      go : (b : Bool) → places.Taken s p (cond b (Fault 17) (Mark inner)) → Goes s p inner
-      go true w = no_fault 17 w
+      go : (b : Bool) → places.Taken s p (cond b (Err Deep) (Ok inner)) → Goes s p inner
+      go true w = no_fault Deep w
       go false w = w
 
   pub empty : get_or s p.at 0 ≡ 41 → p.first ≡ true
@@ -70,7 +73,7 @@ module _ {s : List ℕ} {p : Place} (a : Amid s p) where
     where
       go : (b : Bool) → p.first ≡ b → p.first ≡ true
       go true e = e
-      go false e = no_fault 15 (taken-early here e q)
+      go false e = no_fault NotAList (taken-early here e q)
 
   -- at a digit
   module _ (e : is_digit_byte (get_or s p.at 0) ≡ true) (i : ℕ) (end : i ≡ end_at s p.at) where
@@ -81,18 +84,18 @@ module _ {s : List ℕ} {p : Place} (a : Amid s p) where
     short = go (too_long_atom (i - p.at) (get_or s p.at 0)) refl
       where
         go : (b : Bool) → too_long_atom (i - p.at) (get_or s p.at 0) ≡ b → too_long_atom (i - p.at) (get_or s p.at 0) ≡ false
-        go true q = no_fault 16 (taken_long here atom q)
+        go true q = no_fault Atom (taken_long here atom q)
         go false q = q
 
     more : i < length s
-    more = decide (leb (length s) i) (i < length s) (λ q. no_fault 15 (taken_out here atom short (leb-true (length s) i q))) (λ q. leb-false (length s) i q)
+    more = decide (leb (length s) i) (i < length s) (λ q. no_fault NotAList (taken_out here atom short (leb-true (length s) i q))) (λ q. leb-false (length s) i q)
 
     ends : (get_or s i 0 ≡ 44 → ⊥) → get_or s i 0 ≡ 41
     ends c = go (ℕ_discrete (get_or s i 0) 41)
       where
         go : Dec (get_or s i 0 ≡ 41) → get_or s i 0 ≡ 41
         go (yes q) = q
-        go (no q) = no_fault 15 (taken-other here atom short more c q)
+        go (no q) = no_fault NotAList (taken-other here atom short more c q)
 
     fits : numeral 0 (drop p.at s) < atoms_end
     fits =
@@ -109,7 +112,7 @@ module _ {s : List ℕ} {p : Place} (a : Amid s p) where
     where
       go : (b : Bool) → is_digit_byte (get_or s p.at 0) ≡ b → Whole s p i
       go true e = record { atom = atom e i end; short = short e i end; more = more e i end; ends = ends e i end }
-      go false e = no_fault 15 (taken_none here e x y)
+      go false e = no_fault NotAList (taken_none here e x y)
 
   pub numbered : Numbered s p.at
   numbered = go (is_digit_byte (get_or s p.at 0)) refl

@@ -1,9 +1,8 @@
 -- A text that the check takes, along the places of its steps.
-use Rattle.std.specs.Prelude.{◌≡◌, List, ℕ, ◌≤◌, length, drop}
+use Rattle.std.specs.Prelude.{◌≡◌, List, ℕ, ◌≤◌, length, drop, Ok}
 use Rattle.scan.specs.Places as places
 use Rattle.scan.specs.Places.{prospect, prospect_at}
 use Rattle.scan.specs.declared.step.Place.{Place}
-use Rattle.scan.specs.declared.step.Step.TheVariants.{Mark}
 use Rattle.text.specs.Limits.{levels}
 use Rattle.text.specs.Text.{State, scanned, verdict, done}
 
@@ -30,7 +29,7 @@ Said s st i = (prospect st (drop i s)).answered ≡ scanned s
 
 -- a step from p to q, and what follows a ")" up to q
 abbrev pub Goes : List ℕ → Place → Place → Type 0
-Goes s p q = places.Taken s p (Mark q)
+Goes s p q = places.Taken s p (Ok q)
 
 abbrev pub Closes : List ℕ → ℕ → ℕ → ℕ → Place → Type 0
-Closes s d e i q = places.Closed s d e i (Mark q)
+Closes s d e i q = places.Closed s d e i (Ok q)

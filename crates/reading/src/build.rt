@@ -13,18 +13,12 @@ ghost use Rattle.reading.specs.Adding.{stack, ShutTo, Adding, Added};
 
 use crate::{digits, next};
 use building::hook::Hook;
-use scan::limits::Level;
+use scan::limits::{Level, PerLevel};
 use scan::step::Place;
 use table::Shape;
 
 // The cell of each open list, the outermost first, which has none.
-type Lists = [u32; Level::MOST as usize];
-
-fn wide(c: u32) -> usize
-    ensures { result ≡ c }
-{
-    c as usize
-}
+type Lists = PerLevel<u32>;
 
 // The lists of the levels above `to` end.
 fn shut(s: Shape, t: &mut [u32], h: usize, k: Hook, lists: &Lists, from: u32, to: u32) -> Hook
@@ -35,11 +29,8 @@ fn shut(s: Shape, t: &mut [u32], h: usize, k: Hook, lists: &Lists, from: u32, to
     ensures { ShutTo s h t.old k lists.now from to t.new result }
 {
     let mut at = k;
-    let mut d = from;
-    while d > to {
-        d -= 1;
-        let level = d as usize;
-        at = building::shut_list(s, t, h, at, wide(lists[level]));
+    for level in (to..from).rev() {
+        at = building::shut_list(s, t, h, at, lists[level as usize] as usize);
     }
     at
 }
@@ -61,8 +52,7 @@ fn add(
 {
     if q.depth > p.depth {
         let j = building::begin_list(s, t, h, k);
-        let level = p.depth as usize;
-        lists[level] = j.cell as u32;
+        lists[p.depth as usize] = j.cell() as u32;
         return j;
     }
     if q.elements > p.elements {
@@ -82,7 +72,7 @@ pub fn build(s: Shape, t: &mut [u32], h: usize, text: &[u8])
     ensures { Shows s t.new (read (view s t.old) h (list_in text.now)) }
 {
     let mut lists = [0; Level::MOST as usize];
-    let mut k = Hook { cell: 0, inside: 0 };
+    let mut k = Hook::HOLDER;
     let mut p = Place::opened();
     while p.depth > 0 {
         let n = digits::number_at(text, p.at);

@@ -4,6 +4,7 @@
 
 ghost use Rattle.std.specs.Prelude.{◌≡◌, List, ℕ, ◌<◌, length};
 ghost use Rattle.answers.specs.Answers.{DONE};
+ghost use Rattle.answers.specs.Outcomes.{outcome_of};
 ghost use Rattle.calls.specs.Entry.{work_words, Provided, used};
 ghost use Rattle.calls.specs.Read.{read_into, read_in, reading_in};
 ghost use Rattle.pool.specs.Pool.{frees, Sound};
@@ -12,8 +13,9 @@ ghost use Rattle.table.specs.View.{holder_count, view, Table};
 ghost use Rattle.groups.specs.Stored.{size_fault};
 ghost use Rattle.calls.specs.Promised.{Reads};
 
-use answers::{Answer, Outcome};
-use entry::{Entry, Work};
+use answers::{Outcome, Refusal};
+use cells::seen::Seen;
+use entry::Work;
 use groups::Stored;
 use table::{Form, Shape};
 
@@ -23,59 +25,78 @@ pub mod next;
 pub mod stored;
 
 // A sound table, of which so many cells are free, and bytes of a right size.
-fn into(b: Stored, s: Shape, t: &mut [u32], free: usize, h: usize, bytes: &[u8]) -> Outcome
+fn into(
+    b: Stored,
+    s: Shape,
+    t: &mut [u32],
+    free: usize,
+    h: usize,
+    bytes: &[u8],
+) -> Result<u32, Refusal>
     requires table { Table s t.old }
     requires h_bound { h < holder_count s }
     requires sound { Sound (view s t.old) }
     requires free_value { free ≡ frees (view s t.old).cells }
     requires bytes_value { size_fault b bytes.now ≡ DONE }
-    ensures { (ws : List ℕ) → Reads result t.new (used s.form t.old ws)
+    ensures { (ws : List ℕ) → Reads (outcome_of result) t.new (used s.form t.old ws)
         (read_into s.form b t.old ws h bytes.now) }
 {
     if table::holder_of(s, t, h) != 0 {
-        return Outcome::refused(Answer::OCCUPIED);
+        return Err(Refusal::Occupied);
     }
-    let c = stored::scan(b, bytes);
-    if c.answer != Answer::DONE {
-        return Outcome::refused(c.answer);
-    }
-    if c.extent as usize > free {
-        return Outcome::refused(Answer::NO_ROOM);
+    let found = stored::scan(b, bytes)?;
+    if found.extent as usize > free {
+        return Err(Refusal::NoRoom);
     }
     stored::build(b, s, t, h, bytes);
-    Outcome::done(c.taken)
+    Ok(found.taken)
 }
 
 // On a table that the call has entered.
-fn read_open(b: Stored, s: Shape, t: &mut [u32], w: &mut [u32], h: u32, bytes: &[u8]) -> Outcome
+fn read_open(
+    b: Stored,
+    s: Shape,
+    t: &mut [u32],
+    w: &mut [u32],
+    h: u32,
+    bytes: &[u8],
+) -> Result<u32, Refusal>
     requires { Provided work_words s t.old (length w.old) }
-    ensures { Reads result t.new w.new
+    ensures { Reads (outcome_of result) t.new w.new
         (reading_in s.form b t.old w.old h bytes.now) }
 {
     let a = h as usize;
     if a >= s.holders() {
-        return Outcome::refused(Answer::HOLDER);
+        return Err(Refusal::Holder);
     }
-    let fault = stored::size_fault(b, bytes);
-    if fault != Answer::DONE {
-        return Outcome::refused(fault);
-    }
-    let found = sound::examine(s, t, w);
+    stored::size_fault(b, bytes)?;
+    let found = sound::examine(Seen::new(s, t), w);
     if !found.sound {
-        return Outcome::refused(Answer::UNSOUND);
+        return Err(Refusal::Unsound);
     }
     into(b, s, t, found.free, a, bytes)
+}
+
+fn enter_and_read(
+    f: Form,
+    b: Stored,
+    t: &mut [u32],
+    w: &mut [u32],
+    h: u32,
+    bytes: &[u8],
+) -> Result<u32, Refusal>
+    ensures { Reads (outcome_of result) t.new w.new
+        (reading_in f b t.old w.old h bytes.now) }
+{
+    let s = entry::enter(f, t, w.len(), Work::WORDS)?;
+    read_open(b, s, t, w, h, bytes)
 }
 
 pub fn read_form(f: Form, b: Stored, t: &mut [u32], w: &mut [u32], h: u32, bytes: &[u8]) -> Outcome
     ensures { Reads result t.new w.new
         (reading_in f b t.old w.old h bytes.now) }
 {
-    let entry = entry::enter(f, t, w.len(), Work::WORDS);
-    match entry {
-        Entry::Refused(answer) => Outcome::refused(answer),
-        Entry::Open(s) => read_open(b, s, t, w, h, bytes),
-    }
+    Outcome::from(enter_and_read(f, b, t, w, h, bytes))
 }
 
 // On a table with four words a cell.

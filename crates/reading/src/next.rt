@@ -7,29 +7,26 @@ ghost use Rattle.reading.specs.Numbers.{end_at};
 
 use scan::step::Place;
 
-// What follows a ")".
+// What follows a ")": the check's `closed` without its tests, a twin that DECISIONS.md gives the reason for.
 fn closed(text: &[u8], depth: u32, elements: u32, at: usize) -> Place
     requires taken { Taken text.now }
     requires closing { Closing text.now depth elements at }
     requires said { Said text.now (closed_at depth at) at }
     ensures { Closes text.now depth elements at result }
 {
-    let mut d = depth;
-    let mut i = at;
-    while d > 0 {
+    for shut in 0..depth {
+        let i = at + shut as usize;
         if text[i] == b',' {
             return Place {
                 at: i + 1,
-                depth: d,
+                depth: depth - shut,
                 elements,
                 first: false,
             };
         }
-        i += 1;
-        d -= 1;
     }
     Place {
-        at: i,
+        at: at + depth as usize,
         depth: 0,
         elements,
         first: false,

@@ -1,21 +1,23 @@
 // The two stored forms as a reading goes over them: their size, the check, and the list put into cells.
 ghost use Rattle.std.specs.Prelude.{◌≡◌, ◌≤◌, ◌<◌};
 ghost use Rattle.answers.specs.Answers.{DONE};
+ghost use Rattle.answers.specs.Refusals.{answer_no};
 ghost use Rattle.groups.specs.Stored.{size_fault, scanned, verdict, list_in};
 ghost use Rattle.lists.specs.Lst.{extent};
 ghost use Rattle.pool.specs.Operations.{read};
 ghost use Rattle.pool.specs.Pool.{frees, Sound};
-ghost use Rattle.scan.specs.Outcomes.{saying};
+ghost use Rattle.scan.specs.Outcomes.{Says};
 ghost use Rattle.table.specs.View.{holder_count, view, Table, Shows};
 
 use crate::build;
+use answers::Refusal;
 use groups::Stored;
 use scan::Scanned;
 use table::Shape;
 
 // What is wrong with the bytes before they are read as a list.
-pub fn size_fault(b: Stored, bytes: &[u8]) -> u32
-    ensures { result ≡ size_fault b bytes.now }
+pub fn size_fault(b: Stored, bytes: &[u8]) -> Result<(), Refusal>
+    ensures { answer_no result ≡ size_fault b bytes.now }
 {
     match b {
         Stored::Text => records::size_fault(bytes),
@@ -24,9 +26,9 @@ pub fn size_fault(b: Stored, bytes: &[u8]) -> u32
 }
 
 // The earliest fault, or the bytes taken and the extent.
-pub fn scan(b: Stored, bytes: &[u8]) -> Scanned
+pub fn scan(b: Stored, bytes: &[u8]) -> Result<Scanned, Refusal>
     requires { size_fault b bytes.now ≡ DONE }
-    ensures { result ≡ saying (scanned b bytes.now) (extent (list_in b bytes.now)) }
+    ensures { Says (scanned b bytes.now) (extent (list_in b bytes.now)) result }
 {
     match b {
         Stored::Text => scan::scan(bytes),

@@ -1,8 +1,8 @@
--- A number that tells whether a part of a text is blank.
-use Rattle.std.specs.Prelude.{ℕ, ◌<◌, ◌≡◌, ◌≢◌, List, drop}
+-- A number that tells whether bytes are blanks.
+use Rattle.std.specs.Prelude.{ℕ, ◌≡◌, ◌≢◌, List}
 use Rattle.text.specs.Text.{others}
 
--- n is 0 exactly if the bytes from a up to b are blanks: as many others stand from a on as from b on
-pub record Differing (s : List ℕ) (a b n : ℕ) : Type 0 where
-  pub none : n ≡ 0 → others (drop a s) ≡ others (drop b s)
-  pub some : n ≢ 0 → others (drop b s) < others (drop a s)
+-- n is 0 exactly if all of them are
+pub record Differing (s : List ℕ) (n : ℕ) : Type 0 where
+  pub none : n ≡ 0 → others s ≡ 0
+  pub some : n ≢ 0 → others s ≢ 0

@@ -1,17 +1,22 @@
--- Laws of runs of digits: at a place of a text, over two parts, and over eight bytes. By induction on the characters.
-use Prim.Native.Nat.{ℕ, zero, suc, ◌+◌, ◌<◌, ◌≤◌}
+-- Laws of runs of digits: at a place of a text, over two parts, and up to a byte that is none. By induction on the characters.
+use Prim.Native.Nat.{ℕ, suc, ◌+◌, ◌<◌, ◌≤◌}
 use mathlib.Core.Path.{◌≡◌, refl, sym, ap, ◌∙◌}
 use mathlib.Core.List.{List, [], ◌∷◌, ◌++◌}
-use mathlib.Core.Bool.{Bool, true, false, cond}
+use mathlib.Core.Bool.{Bool, true, false, cond, not}
+use Rattle.std.specs.Prelude.{Option, ltb}
+use Rattle.std.specs.List.{position, position_or_len}
+use Rattle.std.specs.Option.{unwrap_or}
+use Rattle.std.proofs.lemmas.List.Recursion.{is_position_or_len}
+use Rattle.std.proofs.lemmas.List.Sums.{prefix_len-le-length}
 use native.Mathlib.Omega.{arith}
-use native.Mathlib.Numerals.{add-one, add-two, add-three, add-four, add_five, add_six, add_seven, add_eight}
+use native.Mathlib.Numerals.{add-one}
 use lib.ListN.{length, drop, get_or, drop_of_length-le, length-drop}
 use lib.Seq.{drop-cons, get_or-drop}
 use lib.Dec.{leb}
-use borrow.Author.Tests.{le-leb, leb-true}
+use borrow.Author.Tests.{le-leb, leb-true, ltb-false}
 use Rattle.text.specs.ListText.{is_digit_byte}
 use Rattle.text.specs.Laws.TextLaws.{by_case, no_yes}
-use Rattle.scan.specs.Runs.{digit_run, bytes_at}
+use Rattle.scan.specs.Runs.{digit_run}
 
 -- a digit by its bounds
 pub digit_bounds : (b : ℕ) → is_digit_byte b ≡ true → (48 ≤ b) × (b ≤ 55)
@@ -66,18 +71,15 @@ run-part (b ∷ a) t n =
     (λ d f. rw d)
     n
 
--- n bytes of a text, and the place behind them
-abbrev shifted : ℕ → ℕ → ℕ
-shifted zero i = i
-shifted (suc n) i = shifted n (suc i)
-
-abbrev bytes : ℕ → List ℕ → ℕ → List ℕ
-bytes zero s i = []
-bytes (suc n) s i = get_or s i 0 ∷ bytes n s (suc i)
-
-split : (n : ℕ) (s : List ℕ) (i : ℕ) → i + n ≤ length s → drop i s ≡ bytes n s i ++ drop (shifted n i) s
-split zero s i h = refl
-split (suc n) s i h = drop-cons s i 0 (omega arith) ∙ ap (λ (l : List ℕ). get_or s i 0 ∷ l) (split n s (suc i) (omega arith))
-
-pub eight_split : (s : List ℕ) (i : ℕ) → i + 8 ≤ length s → drop i s ≡ bytes_at s i ++ drop (i + 8) s
-eight_split s i h = simp (add-one, add-two, add-three, add-four, add_five, add_six, add_seven, add_eight) (split 8 s i h)
+-- a run goes up to the first byte that is no digit
+pub run_first : (l : List ℕ) (r : Option ℕ) → r ≡ position (λ b. not (is_digit_byte b)) l → unwrap_or r (length l) ≡ digit_run l
+run_first l r e =
+    let n : ℕ = position_or_len (λ b. not (is_digit_byte b)) l in
+    ap (λ (o : Option ℕ). unwrap_or o (length l)) e
+    ∙ by_case (ltb n (length l)) (λ (o : Option ℕ). unwrap_or o (length l) ≡ n) (λ d. refl)
+    (λ d. omega (arith, ltb-false n (length l) d, prefix_len-le-length (λ b. not (not (is_digit_byte b))) l))
+    ∙ sym (is_position_or_len digit_run (λ b. not (is_digit_byte b)) refl (λ b m. either (is_digit_byte b) (digit_run m)) l)
+  where
+    either : (d : Bool) (n : ℕ) → cond d (suc n) 0 ≡ cond (not d) 0 (1 + n)
+    either true n = omega arith
+    either false n = refl

@@ -3,6 +3,8 @@ use Prim.Native.Nat.{ℕ, ◌+◌, ◌-◌, ◌<◌, ◌≤◌}
 use mathlib.Core.Path.{◌≡◌, refl, ap, ◌∙◌}
 use mathlib.Core.List.{List, [], ◌∷◌}
 use mathlib.Core.Bool.{false}
+use Rattle.std.specs.Prelude.{Ok, Err}
+use Rattle.answers.specs.declared.refusal.Refusal.TheVariants.{NotAList}
 use native.Mathlib.Omega.{arith}
 use lib.ListN.{length, drop, get_or, drop_of_length-le}
 use borrow.Author.Tests.{ne_eqb}
@@ -13,8 +15,6 @@ use Rattle.text.specs.Marks.{Mark, shut}
 use Rattle.text.specs.Laws.TextLaws.{class}
 use Rattle.scan.specs.Places.{placed, closed_at, Prospect, prospect, behind, shuts, Closing, Closed}
 use Rattle.scan.specs.Laws.Ends.{beginnings-shuts, shuts-append}
-use Rattle.scan.specs.declared.step.Step.TheVariants as step
-use Rattle.scan.specs.declared.step.Step.TheVariants.{Fault}
 use Rattle.scan.proofs.Outlooks.{behind-behind}
 use Rattle.scan.proofs.Turns.{fault_told, comma-on, shut_same}
 use Rattle.scan.proofs.Misplaced.{behind-element}
@@ -54,13 +54,13 @@ module _ {s : List ℕ} {depth e at d i : ℕ} (k : Shutting s depth e at d i) w
         let st : closed_at d i ≡ text.at scan_behind i = simp (ne_eqb d 0 some) in
         k.same ∙ ap (λ (u : State). behind (shuts (depth - d)) (prospect u (drop i s))) st
 
-    pub closed_out : length s ≤ i → Closed s depth e at (Fault 15)
+    pub closed_out : length s ≤ i → Closed s depth e at (Err NotAList)
     closed_out h =
         ap (λ (x : Prospect). x.answered)
         (stands ∙ ap (λ (l : List ℕ). behind (shuts (depth - d)) (prospect (text.at scan_behind i) l)) (drop_of_length-le s h))
 
     module _ (some : i < length s) where
-      pub closed-comma : 1 ≤ at → get_or s i 0 ≡ 44 → Closed s depth e at (step.Mark (placed (i + 1) d e false))
+      pub closed-comma : 1 ≤ at → get_or s i 0 ≡ 44 → Closed s depth e at (Ok (placed (i + 1) d e false))
       closed-comma low q =
           let w = comma-on s (at - 1) scan_behind i (omega (arith, k.from)) some deep k.levelled e e depth k.high refl (omega arith)
           (omega (arith, k.counted)) q in
@@ -74,7 +74,7 @@ module _ {s : List ℕ} {depth e at d i : ℕ} (k : Shutting s depth e at d i) w
             same = stands ∙ ap (behind (shuts (depth - d))) w.same;
           }
 
-      pub closed-other : (get_or s i 0 ≡ 44 → ⊥) → (get_or s i 0 ≡ 41 → ⊥) → Closed s depth e at (Fault 15)
+      pub closed-other : (get_or s i 0 ≡ 44 → ⊥) → (get_or s i 0 ≡ 41 → ⊥) → Closed s depth e at (Err NotAList)
       closed-other p q =
           ap (λ (x : Prospect). x.answered) stands
           ∙ fault_told s at scan_behind i k.from some deep k.levelled (get_or s i 0) 15 refl (behind-element d (get_or s i 0) p q (class (get_or s i 0)))
@@ -94,7 +94,7 @@ module _ {s : List ℕ} {depth e at d i : ℕ} (k : Shutting s depth e at d i) w
                 ∙ ap (λ (ms : List Mark). behind ms next) (shuts-append (depth - d) 1 ∙ ap shuts more);
           }
 
-  pub closed-over : 1 ≤ at → d ≡ 0 → Closed s depth e at (step.Mark (placed i 0 e false))
+  pub closed-over : 1 ≤ at → d ≡ 0 → Closed s depth e at (Ok (placed i 0 e false))
   closed-over low z =
       record {
         on = omega (arith, k.from);

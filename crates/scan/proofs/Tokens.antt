@@ -4,6 +4,10 @@ use Prim.Native.Nat.{ℕ, suc, ◌+◌, ◌-◌, ◌<◌, ◌≤◌}
 use mathlib.Core.Path.{◌≡◌, refl, sym, ap, subst, ◌∙◌}
 use mathlib.Core.List.{List, [], ◌∷◌, ◌++◌}
 use mathlib.Core.Bool.{Bool, true, false}
+use Rattle.std.specs.Prelude.{Ok, Err}
+use Rattle.answers.specs.Refusals.{refusal_no}
+use Rattle.answers.specs.declared.refusal.Refusal.{Refusal}
+use Rattle.answers.specs.declared.refusal.Refusal.TheVariants.{NotAList, Atom}
 use native.Mathlib.Omega.{arith}
 use lib.ListN.{length, drop, get_or, drop_of_length-le}
 use borrow.Author.Tests.{lt-ltb, le-ltb}
@@ -14,11 +18,8 @@ use Rattle.text.specs.Marks.{Mark, beginnings, shut, value}
 use Rattle.text.specs.Laws.TextLaws.{class}
 use Rattle.scan.specs.Runs.{digit_run, numeral}
 use Rattle.scan.specs.Places.{placed, open_of, too_long_atom, closed_at, phase_of, Prospect, prospect, prospect_at}
-use Rattle.scan.specs.Places.{shuts, emitted, Inside, Onward, Told, Taken, Closed}
+use Rattle.scan.specs.Places.{Step, shuts, emitted, Inside, Onward, Told, Taken, Closed}
 use Rattle.scan.specs.declared.step.Place.{Place}
-use Rattle.scan.specs.declared.step.Step.{Step}
-use Rattle.scan.specs.declared.step.Step.TheVariants as step
-use Rattle.scan.specs.declared.step.Step.TheVariants.{Fault}
 use Rattle.scan.proofs.RunLaws.{run_ends}
 use Rattle.scan.proofs.Atoms.{Past, atom-on, atom-off, short, long}
 use Rattle.scan.proofs.Turns.{standing, fault_told, comma-on, shut_same, shut_told, open_told}
@@ -41,8 +42,8 @@ module _ {s : List ℕ} {p : Place} (h : Inside s p) where
   told u w =
       subst (λ (st : State). Told s p.at p.elements (p.depth + 1) (prospect st (drop p.at s)) (emitted s p) u) (sym (standing p h.deep)) w
 
-  told_fault : (k : ℕ) → there.answered ≡ refusal k → Taken s p (Fault k)
-  told_fault k w = told (Fault k) w
+  told_fault : (f : Refusal) → there.answered ≡ refusal (refusal_no f) → Taken s p (Err f)
+  told_fault f w = told (Err f) w
 
   -- the marks up to q
   emits_open : emitted s p (placed (p.at + 1) (p.depth + 1) (p.elements + 1) true) ≡ marks.opened ∷ []
@@ -82,15 +83,15 @@ module _ {s : List ℕ} {p : Place} (h : Inside s p) where
       ∙ ap (λ (o : Prospect). o.answered)
       (shut_same s p.at scan_at p.at (omega arith) h.some h.deep h.levelled (ap (λ (x : Bool). may_shut (phase_of x)) f) q)
 
-  pub taken-early : p.first ≡ false → get_or s p.at 0 ≡ 41 → Taken s p (Fault 15)
+  pub taken-early : p.first ≡ false → get_or s p.at 0 ≡ 41 → Taken s p (Err NotAList)
   taken-early f q =
-      told_fault 15
+      told_fault NotAList
       (fault_told s p.at scan_at p.at (omega arith) h.some h.deep h.levelled 41 15 q
       (ap (λ (x : Bool). step_of (place (phase_of x) p.depth 0 0) 41) f))
 
-  pub taken_none : is_digit_byte (get_or s p.at 0) ≡ false → (get_or s p.at 0 ≡ 40 → ⊥) → (get_or s p.at 0 ≡ 41 → ⊥) → Taken s p (Fault 15)
+  pub taken_none : is_digit_byte (get_or s p.at 0) ≡ false → (get_or s p.at 0 ≡ 40 → ⊥) → (get_or s p.at 0 ≡ 41 → ⊥) → Taken s p (Err NotAList)
   taken_none n c d =
-      told_fault 15
+      told_fault NotAList
       (fault_told s p.at scan_at p.at (omega arith) h.some h.deep h.levelled (get_or s p.at 0) 15 refl
       (no_element p.first p.depth (get_or s p.at 0) n c d (class (get_or s p.at 0))))
 
@@ -105,9 +106,9 @@ module _ {s : List ℕ} {p : Place} (h : Inside s p) where
     digits : too_long_atom (i - p.at) b ≡ too_long_atom (more + 1) b
     digits = let q : i - p.at ≡ more + 1 = omega (arith, a.run) in ap (λ (n : ℕ). too_long_atom n b) q
 
-    pub taken_long : too_long_atom (i - p.at) b ≡ true → Taken s p (Fault 16)
+    pub taken_long : too_long_atom (i - p.at) b ≡ true → Taken s p (Err Atom)
     taken_long t =
-        told_fault 16 (atom-off s scan_at p.at h.some (may_begin_lem p.first).1 a.digit more refl (long more b (sym digits ∙ t)))
+        told_fault Atom (atom-off s scan_at p.at h.some (may_begin_lem p.first).1 a.digit more refl (long more b (sym digits ∙ t)))
 
     module _ (t : too_long_atom (i - p.at) b ≡ false) where
       on : Past p.depth there i (numeral 0 (drop p.at s)) (drop i s)
@@ -122,24 +123,24 @@ module _ {s : List ℕ} {p : Place} (h : Inside s p) where
       told_in : (u : Step) → Told s p.at p.elements (p.depth + 1) (prospect (at scan_in i) (drop i s)) (emitted s p) u → Taken s p u
       told_in u w = told u (subst (λ (o : Prospect). Told s p.at p.elements (p.depth + 1) o (emitted s p) u) (sym on.same) w)
 
-      pub taken_out : length s ≤ i → Taken s p (Fault 15)
+      pub taken_out : length s ≤ i → Taken s p (Err NotAList)
       taken_out out =
-          told_fault 15 (ap (λ (o : Prospect). o.answered) (on.same ∙ ap (prospect (at scan_in i)) (drop_of_length-le s out)))
+          told_fault NotAList (ap (λ (o : Prospect). o.answered) (on.same ∙ ap (prospect (at scan_in i)) (drop_of_length-le s out)))
 
-      pub taken-comma : i < length s → get_or s i 0 ≡ 44 → Taken s p (step.Mark (placed (i + 1) p.depth (p.elements + 1) false))
+      pub taken-comma : i < length s → get_or s i 0 ≡ 44 → Taken s p (Ok (placed (i + 1) p.depth (p.elements + 1) false))
       taken-comma some q =
           let x = placed (i + 1) p.depth (p.elements + 1) false in
           let is : value on.value ∷ [] ≡ emitted s p x =
           ap (λ (v : ℕ). value v ∷ []) on.is ∙ sym (emits_atom x 0 (omega arith) refl (omega arith)) in
-          told_in (step.Mark x)
+          told_in (Ok x)
           (subst (λ (ms : List Mark). Onward s p.at p.elements (p.depth + 1) (prospect (at scan_in i) (drop i s)) ms x) is
           (comma-on s p.at scan_in i (omega arith) some h.deep h.levelled p.elements (p.elements + 1) (p.depth + 1) (omega arith) refl
           (omega arith) (omega (arith, h.counted)) q))
 
-      pub taken-other : i < length s → (get_or s i 0 ≡ 44 → ⊥) → (get_or s i 0 ≡ 41 → ⊥) → Taken s p (Fault 15)
+      pub taken-other : i < length s → (get_or s i 0 ≡ 44 → ⊥) → (get_or s i 0 ≡ 41 → ⊥) → Taken s p (Err NotAList)
       taken-other some x y =
           let ends : is_digit_byte (get_or s i 0) ≡ false = ap (λ (n : ℕ). is_digit_byte (get_or s n 0)) a.run ∙ run_ends s (p.at + 1) more refl (omega (arith, a.run)) in
-          told_in (Fault 15)
+          told_in (Err NotAList)
           (fault_told s p.at scan_in i (omega arith) some h.deep h.levelled (get_or s i 0) 15 refl
           (behind-digits p.depth on.digits on.value (get_or s i 0) ends x y (class (get_or s i 0))))
 

@@ -3,6 +3,7 @@ use Prim.Native.Nat.{ℕ, ◌+◌, ◌-◌, ◌<◌, ◌≤◌}
 use mathlib.Core.Path.{◌≡◌, sym, ap, ◌∙◌}
 use mathlib.Core.List.{List, [], ◌∷◌, ◌++◌, append_assoc}
 use mathlib.Core.Bool.{true, false, cond}
+use Rattle.std.specs.Prelude.{Ok, Err}
 use native.Mathlib.Omega.{arith}
 use lib.ListN.{length, drop, get_or}
 use lib.Dec.{leb, ltb}
@@ -15,12 +16,9 @@ use Rattle.text.specs.Marks as marks
 use Rattle.text.specs.Marks.{Mark, met, beginnings, pending, shut}
 use Rattle.text.specs.Laws.TextLaws.{by_case}
 use Rattle.text.specs.Laws.MarkLaws.{beginnings-append}
-use Rattle.scan.specs.Places.{placed, open_of, state_of, closed_at, phase_of, Prospect, prospect, prospect_at, behind, shuts, Onward, Told, Closed}
+use Rattle.scan.specs.Places.{Step, placed, open_of, state_of, closed_at, phase_of, Prospect, prospect, prospect_at, behind, shuts, Onward, Told, Closed}
 use Rattle.scan.specs.Laws.Ends.{beginnings-shuts}
 use Rattle.scan.specs.declared.step.Place.{Place}
-use Rattle.scan.specs.declared.step.Step.{Step}
-use Rattle.scan.specs.declared.step.Step.TheVariants as step
-use Rattle.scan.specs.declared.step.Step.TheVariants.{Fault}
 use Rattle.scan.proofs.Outlooks.{turned, behind-behind, stops}
 
 -- a place with a level open
@@ -74,7 +72,7 @@ module _ (s : List ℕ) (a : ℕ) (t : Scan) (i : ℕ) (from : a ≤ i) (some : 
   pub shut_told : (e n : ℕ) (m : Place → List Mark) → n ≡ e + beginnings (pending t)
       → ((q : Place) → q.depth ≤ t.depth - 1 → q.elements ≡ n → m q ≡ pending t ++ (shut ∷ shuts (t.depth - 1 - q.depth)))
       → may_shut t.phase ≡ true → get_or s i 0 ≡ 41 → (u : Step) → Closed s (t.depth - 1) n (i + 1) u → Told s a e (t.depth + 1) here m u
-  shut_told e n m c is may q (step.Mark p) w =
+  shut_told e n m c is may q (Ok p) w =
       let k = t.depth - 1 - p.depth in
       let ms : m p ≡ pending t ++ (shut ∷ shuts k) = is p w.high (omega (arith, w.tallied, beginnings-shuts k)) in
       record {
@@ -88,7 +86,7 @@ module _ (s : List ℕ) (a : ℕ) (t : Scan) (i : ℕ) (from : a ≤ i) (some : 
             ∙ behind-behind (pending t ++ (shut ∷ [])) (shuts k) (prospect_at s p)
             ∙ ap (λ (l : List Mark). behind l (prospect_at s p)) (append_assoc (pending t) (shut ∷ []) (shuts k) ∙ sym ms);
       }
-  shut_told e n m c is may q (Fault k) w = ap (λ (o : Prospect). o.answered) (shut_same may q) ∙ w
+  shut_told e n m c is may q (Err f) w = ap (λ (o : Prospect). o.answered) (shut_same may q) ∙ w
 
   pub open_told : (e : ℕ) (m : Place → List Mark) → m (placed (i + 1) (t.depth + 1) (e + 1) true) ≡ marks.opened ∷ []
       → may_open t.phase ≡ true → e ≤ i → get_or s i 0 ≡ 40 → Told s a e (t.depth + 1) here m (open_of t.depth e i)

@@ -1,17 +1,25 @@
 -- Eight bytes at a time: the zeros below the lowest set bit of the masked word tell how many of its bytes are digits.
 -- By induction on the bytes: the bits of a word and of a mask fall apart at each byte.
-use Prim.Native.Nat.{ℕ, zero, suc, ◌+◌, ◌*◌, ◌/◌, ◌%◌, ◌^◌, ◌<◌, ◌≤◌}
-use mathlib.Core.Path.{◌≡◌, refl, sym, ap, ◌∙◌}
-use mathlib.Core.List.{List, [], ◌∷◌}
-use native.Mathlib.Omega.{arith}
-use native.Mathlib.Nat.{pow-suc}
+use Rattle.std.specs.Prelude.{ℕ, zero, suc, ◌+◌, ◌-◌, ◌*◌, ◌/◌, ◌%◌, ◌^◌, ◌<◌, ◌≤◌, ◌≡◌, refl, List, [], ◌∷◌, ◌++◌, length, take, drop, slice_index}
+use Rattle.std.specs.Int.{byte_worth, sum_through, from_le_bytes, w64}
+use Rattle.std.specs.Array.{IsFirstChunk}
+use Rattle.std.proofs.Common.{Fits, w8, sym, ap, subst, ◌∙◌, arith, take_all, length-drop, drop-drop, pow-suc, mul_assoc}
+use Rattle.std.proofs.lemmas.List.{take-append-drop, length-take-le, get_or-drop}
 use lib.Bits.{bit_and, bit_xor, block_half, block_odd, and_block, xor_block, and_high, xor_lt, xor_self, xor_add_and, and_le_l, and_le_r}
 use lib.Count.{count_trailing_zeros, under, trailing_of_zero}
-use lib.ListN.{length, drop}
 use Rattle.text.specs.ListText.{is_digit_byte}
 use Rattle.text.specs.Laws.TextLaws.{by_case, no_yes}
-use Rattle.scan.specs.Runs.{digit_run, bytes_at, Bytes, word}
-use Rattle.scan.proofs.RunLaws.{digit_bounds, bounds_digit, run-all, run-part, eight_split}
+use Rattle.scan.specs.Runs.{digit_run}
+use Rattle.scan.proofs.RunLaws.{digit_bounds, bounds_digit, run-all, run-part}
+
+abbrev Bytes : List ℕ → Type 0
+Bytes [] = Unit {0}
+Bytes (b ∷ bs) = (b < 256) × Bytes bs
+
+-- bytes as a number, the first lowest
+abbrev word : List ℕ → ℕ
+word [] = 0
+word (b ∷ bs) = word bs * 256 + b
 
 -- j bits more than k
 abbrev more : ℕ → ℕ → ℕ
@@ -61,36 +69,41 @@ rest-less : (b : ℕ) → b < 256 → rest b < 256
 rest-less b h = xor_lt 8 (bit_and b 248) 48 (omega (arith, and_le_l b 248)) (omega arith)
 
 -- the masked word, and its bits
-abbrev mask : List ℕ → ℕ
-mask [] = 0
-mask (b ∷ bs) = mask bs * 256 + 248
+abbrev mask : ℕ → ℕ
+mask zero = 0
+mask (suc n) = mask n * 256 + 248
 
-abbrev digits : List ℕ → ℕ
-digits [] = 0
-digits (b ∷ bs) = digits bs * 256 + 48
+abbrev digits : ℕ → ℕ
+digits zero = 0
+digits (suc n) = digits n * 256 + 48
 
-abbrev bits : List ℕ → ℕ
-bits [] = 0
-bits (b ∷ bs) = more 8 (bits bs)
+abbrev bits : ℕ → ℕ
+bits zero = 0
+bits (suc n) = more 8 (bits n)
+
+-- the bits of a word that are no digit's, where it is of n bytes
+abbrev strange : ℕ → ℕ → ℕ
+strange n w = bit_xor (bit_and w (mask n)) (digits n)
 
 abbrev others : List ℕ → ℕ
-others bs = bit_xor (bit_and (word bs) (mask bs)) (digits bs)
+others bs = strange (length bs) (word bs)
 
 parts : (b : ℕ) (bs : List ℕ) → b < 256 → others (b ∷ bs) ≡ others bs * 256 + rest b
 parts b bs h =
-    ap (λ (n : ℕ). bit_xor n (digits bs * 256 + 48)) (and_block 8 (word bs) (mask bs) b 248 h (omega arith))
-    ∙ xor_block 8 (bit_and (word bs) (mask bs)) (digits bs) (bit_and b 248) 48 (omega (arith, and_le_l b 248)) (omega arith)
+    let n = length bs in
+    ap (λ (k : ℕ). bit_xor k (digits n * 256 + 48)) (and_block 8 (word bs) (mask n) b 248 h (omega arith))
+    ∙ xor_block 8 (bit_and (word bs) (mask n)) (digits n) (bit_and b 248) 48 (omega (arith, and_le_l b 248)) (omega arith)
 
-run-told : (bs : List ℕ) → Bytes bs → count_trailing_zeros (bits bs) (others bs) / 8 ≡ digit_run bs
+run-told : (bs : List ℕ) → Bytes bs → count_trailing_zeros (bits (length bs)) (others bs) / 8 ≡ digit_run bs
 unfolding count_trailing_zeros
 run-told [] p = refl
 run-told (b ∷ bs) p =
-    let e = ap (λ (n : ℕ). count_trailing_zeros (bits (b ∷ bs)) n / 8) (parts b bs p.0) in
-    let P : ℕ → Type 0 = λ n. count_trailing_zeros (bits (b ∷ bs)) (others bs * 256 + rest b) / 8 ≡ n in
+    let e = ap (λ (n : ℕ). count_trailing_zeros (bits (suc (length bs))) n / 8) (parts b bs p.0) in
+    let P : ℕ → Type 0 = λ n. count_trailing_zeros (bits (suc (length bs))) (others bs * 256 + rest b) / 8 ≡ n in
     let none : rest b ≡ 0 → P (suc (digit_run bs))
-    = λ z. ap (λ (n : ℕ). n / 8) (low_zero 8 (bits bs) (others bs) (rest b) z) ∙ omega (arith, run-told bs p.1) in
+    = λ z. ap (λ (n : ℕ). n / 8) (low_zero 8 (bits (length bs)) (others bs) (rest b) z) ∙ omega (arith, run-told bs p.1) in
     let some : (rest b ≡ 0 → ⊥) → P 0
-    = λ z. omega (arith, low_some 8 (bits bs) (others bs) (rest b) (rest-less b p.0) z) in
+    = λ z. omega (arith, low_some 8 (bits (length bs)) (others bs) (rest b) (rest-less b p.0) z) in
     e
     ∙ by_case (is_digit_byte b) P (λ d. let q = digit_bounds b d in none (digit-none b p.0 q.0 q.1))
     (λ d. some (other_some b p.0 (λ l u. no_yes (sym d ∙ bounds_digit b l u))))
@@ -105,21 +118,67 @@ full-none (b ∷ bs) p e =
     (λ d f. absurd (omega arith))
     e
 
--- the bits of a word that are no digit's
+-- the number that bytes are to std
+one_more : (b : ℕ) (bs : List ℕ) (k : ℕ)
+    → sum_through (λ i. byte_worth i (slice_index (b ∷ bs) i)) (suc k) ≡ sum_through (λ i. byte_worth i (slice_index bs i)) k * 256 + b
+one_more b bs zero = omega arith
+one_more b bs (suc k) =
+    let x = slice_index bs (suc k) in
+    omega (arith, one_more b bs k, ap (λ (n : ℕ). x * n) (pow-suc 256 (suc k)), mul_assoc x (256 ^ suc k) 256)
+
+read : (bs : List ℕ) (k : ℕ) → length bs ≡ suc k → sum_through (λ i. byte_worth i (slice_index bs i)) k ≡ word bs
+read [] k e = absurd (omega arith)
+read (b ∷ []) zero e = omega arith
+read (b ∷ (a ∷ bs)) zero e = absurd (omega arith)
+read (b ∷ bs) (suc k) e = one_more b bs k ∙ ap (λ (n : ℕ). n * 256 + b) (read bs k (omega arith))
+
+small : (n : ℕ) (l : List ℕ) → ((k : ℕ) → slice_index l k < 256) → Bytes (take n l)
+small zero l f = tt
+small (suc n) [] f = tt
+small (suc n) (b ∷ l) f = (f 0, small n l (λ k. f (suc k)))
+
+-- the bits of eight bytes that are no digit's
 abbrev pub left : ℕ → ℕ
 left w = bit_xor (bit_and w 17940362863843014904) 3472328296227680304
 
--- the word at a place
-module _ (s : List ℕ) (i : ℕ) (h : i + 8 ≤ length s) (w : ℕ) (e : w ≡ word (bytes_at s i)) (p : Bytes (bytes_at s i)) where
-  told : count_trailing_zeros 64 (left w) / 8 ≡ digit_run (bytes_at s i)
-  told = ap (λ (n : ℕ). count_trailing_zeros 64 (left n) / 8) e ∙ run-told (bytes_at s i) p
+-- the eight bytes at a place
+module _ (s : List ℕ) (i : ℕ) (bs : List ℕ) (here : IsFirstChunk (take (length s - i) (drop i s)) bs 8) (fits : (k : ℕ) → Fits w8 (slice_index s k)) where
+  all : take (length s - i) (drop i s) ≡ drop i s
+  all = take_all (length s - i) (drop i s) (omega (arith, length-drop i s))
 
-  pub eight_more : left w ≡ 0 → digit_run (drop i s) ≡ 8 + digit_run (drop (i + 8) s)
+  enough : 8 ≤ length (drop i s)
+  enough = omega (arith, here.enough, ap length all)
+
+  front : bs ≡ take 8 (drop i s)
+  front = here.same ∙ ap (take 8) all
+
+  size : length bs ≡ 8
+  size = ap length front ∙ length-take-le 8 (drop i s) enough
+
+  bytes : Bytes bs
+  bytes = subst Bytes (sym front) (small 8 (drop i s) (λ k. omega (arith, get_or-drop i s k 0, fits (i + k))))
+
+  split : drop i s ≡ bs ++ drop (i + 8) s
+  split = sym (take-append-drop 8 (drop i s)) ∙ cc (front, drop-drop 8 i s)
+
+  word_is : from_le_bytes w64 bs ≡ word bs
+  word_is = read bs 7 size
+
+  told : count_trailing_zeros 64 (left (from_le_bytes w64 bs)) / 8 ≡ digit_run bs
+  told =
+      ap (λ (w : ℕ). count_trailing_zeros 64 (left w) / 8) word_is
+      ∙ ap (λ (n : ℕ). count_trailing_zeros (bits n) (strange n (word bs)) / 8) (sym size) ∙ run-told bs bytes
+
+  pub room : i + 8 ≤ length s
+  room = omega (arith, enough, length-drop i s)
+
+  pub eight_more : left (from_le_bytes w64 bs) ≡ 0 → digit_run (drop i s) ≡ 8 + digit_run (drop (i + 8) s)
   eight_more z =
-      let all : digit_run (bytes_at s i) ≡ 8 = sym told ∙ ap (λ (n : ℕ). count_trailing_zeros 64 n / 8) z ∙ ap (λ (n : ℕ). n / 8) (trailing_of_zero 64) in
-      ap digit_run (eight_split s i h) ∙ run-all (bytes_at s i) (drop (i + 8) s) all
+      let eight : digit_run bs ≡ 8 = sym told ∙ ap (λ (n : ℕ). count_trailing_zeros 64 n / 8) z ∙ ap (λ (n : ℕ). n / 8) (trailing_of_zero 64) in
+      ap digit_run split ∙ run-all bs (drop (i + 8) s) (eight ∙ sym size) ∙ ap (λ (n : ℕ). n + digit_run (drop (i + 8) s)) size
 
-  pub eight_less : (left w ≡ 0 → ⊥) → digit_run (drop i s) ≡ count_trailing_zeros 64 (left w) / 8
+  pub eight_less : (left (from_le_bytes w64 bs) ≡ 0 → ⊥) → digit_run (drop i s) ≡ count_trailing_zeros 64 (left (from_le_bytes w64 bs)) / 8
   eight_less n =
-      let part : digit_run (bytes_at s i) ≡ 8 → ⊥ = λ q. n (ap left e ∙ full-none (bytes_at s i) p q) in
-      ap digit_run (eight_split s i h) ∙ run-part (bytes_at s i) (drop (i + 8) s) part ∙ sym told
+      let none : digit_run bs ≡ length bs → left (from_le_bytes w64 bs) ≡ 0
+      = λ q. ap left word_is ∙ ap (λ (k : ℕ). strange k (word bs)) (sym size) ∙ full-none bs bytes q in
+      ap digit_run split ∙ run-part bs (drop (i + 8) s) (λ q. n (none q)) ∙ sym told

@@ -1,6 +1,9 @@
 -- Places in a text, of the code and of the automaton: what a place says of the rest of the text, and what a step from
 -- it must say.
-use Rattle.std.specs.Prelude.{ℕ, zero, suc, ◌+◌, ◌-◌, ◌<◌, ◌≤◌, ◌≡◌, List, [], ◌∷◌, ◌++◌, Bool, true, false, cond, length, drop, eqb, leb, ltb}
+use Rattle.std.specs.Prelude.{ℕ, zero, suc, ◌+◌, ◌-◌, ◌<◌, ◌≤◌, ◌≡◌, List, [], ◌∷◌, ◌++◌, Bool, true, false, cond, length, drop, eqb, leb, ltb, Result, Ok, Err}
+use Rattle.answers.specs.Refusals.{refusal_no}
+use Rattle.answers.specs.declared.refusal.Refusal.{Refusal}
+use Rattle.answers.specs.declared.refusal.Refusal.TheVariants.{Deep}
 use Rattle.text.specs.Limits.{levels, digits_most, text_most}
 use Rattle.text.specs.Text as text
 use Rattle.text.specs.Text.{State, place, mark, settle, run, answer, refusal}
@@ -8,9 +11,6 @@ use Rattle.text.specs.Marks as marks
 use Rattle.text.specs.Marks.{Mark, shut, value, trace, beginnings}
 use Rattle.scan.specs.Runs.{numeral}
 use Rattle.scan.specs.declared.step.Place.{Place}
-use Rattle.scan.specs.declared.step.Step.{Step}
-use Rattle.scan.specs.declared.step.Step.TheVariants as step
-use Rattle.scan.specs.declared.step.Step.TheVariants.{Fault}
 
 abbrev pub placed : ℕ → ℕ → ℕ → Bool → Place
 placed i d e f = record { at = i; depth = d; elements = e; first = f }
@@ -19,14 +19,13 @@ placed i d e f = record { at = i; depth = d; elements = e; first = f }
 abbrev pub opened : Place
 opened = placed 1 1 0 true
 
--- the number of a fault
-abbrev pub fault_of : Step → ℕ
-fault_of (step.Mark p) = 0
-fault_of (Fault k) = k
+-- a mark, or a fault
+abbrev pub Step : Type 0
+Step = Result Place Refusal
 
 -- "("
 abbrev pub open_of : ℕ → ℕ → ℕ → Step
-open_of d e i = cond (leb levels d) (Fault 17) (step.Mark (placed (i + 1) (d + 1) (e + 1) true))
+open_of d e i = cond (leb levels d) (Err Deep) (Ok (placed (i + 1) (d + 1) (e + 1) true))
 
 -- n digits of which b is the first are no atom
 abbrev pub too_long_atom : ℕ → ℕ → Bool
@@ -117,8 +116,8 @@ pub record Onward (s : List ℕ) (i e top : ℕ) (o : Prospect) (ms : List Mark)
 
 -- a mark goes on behind the marks that m says, a fault is the answer
 abbrev pub Told : List ℕ → ℕ → ℕ → ℕ → Prospect → (Place → List Mark) → Step → Type 0
-Told s i e top o m (step.Mark q) = Onward s i e top o (m q) q
-Told s i e top o m (Fault k) = o.answered ≡ refusal k
+Told s i e top o m (Ok q) = Onward s i e top o (m q) q
+Told s i e top o m (Err f) = o.answered ≡ refusal (refusal_no f)
 
 -- a step from p
 abbrev pub Taken : List ℕ → Place → Step → Type 0

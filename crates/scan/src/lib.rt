@@ -3,110 +3,89 @@
 #![tactic(auto)]
 
 ghost use Rattle.std.specs.Prelude.{◌≡◌, ◌+◌, ◌≤◌, length, drop};
+ghost use Rattle.answers.specs.Outcomes.{outcome_of};
 ghost use Rattle.text.specs.Text.{verdict, rest_at};
-ghost use Rattle.scan.specs.Outcomes.{scanned_as, answered_as, refused_scan, done_scan, told, Sized};
+ghost use Rattle.scan.specs.Outcomes.{Scans, Foresees, answered_as, Sized};
 ghost use Rattle.scan.specs.Places.{outlook, over_at};
 
-use crate::step::{Place, Step};
-use answers::{Answer, Outcome};
+use crate::step::Place;
+use answers::{Outcome, Refusal};
 use records::Record;
 
 pub mod limits;
 pub mod octals;
 pub mod step;
 
-// What a scan says: the answer, the bytes taken, and the extent of the list.
+// What a scan finds: the bytes taken, and the extent of the list.
 #[derive(Clone, Copy)]
 pub struct Scanned {
-    pub answer: u32,
     pub taken: u32,
     pub extent: u32,
 }
 
-impl Scanned {
-    pub fn refused(answer: u32) -> Scanned
-        ensures { result ≡ refused_scan answer }
-    {
-        Scanned {
-            answer,
-            taken: 0,
-            extent: 0,
-        }
-    }
-
-    pub fn done(taken: u32, extent: u32) -> Scanned
-        ensures { result ≡ done_scan taken extent }
-    {
-        Scanned {
-            answer: 0,
-            taken,
-            extent,
-        }
-    }
-}
-
 // The fill behind the last ")".
-fn ending(text: &[u8], from: usize, elements: u32) -> Scanned
+fn ending(text: &[u8], from: usize, elements: u32) -> Result<Scanned, Refusal>
     requires sized { Sized text.now }
     requires from_in_bounds { from ≤ length text.now }
-    ensures { result ≡ told (outlook (elements + 1) (over_at from) (drop from text.now)) }
+    ensures { Foresees (outlook (elements + 1) (over_at from) (drop from text.now)) result }
 {
-    let mut i = from;
-    while i % Record::BYTES != 0 {
-        if text[i] != b' ' {
-            return Scanned::refused(Answer::NOT_A_LIST);
+    let end = from.next_multiple_of(Record::BYTES);
+    for b in &text[from..end] {
+        if *b != b' ' {
+            return Err(Refusal::NotAList);
         }
-        i += 1;
     }
-    Scanned::done(i as u32, elements)
+    Ok(Scanned {
+        taken: end as u32,
+        extent: elements,
+    })
 }
 
 // Text of a right size: the earliest fault, or the bytes taken and the extent.
-pub fn scan(text: &[u8]) -> Scanned
+pub fn scan(text: &[u8]) -> Result<Scanned, Refusal>
     requires { Sized text.now }
-    ensures { result ≡ scanned_as text.now }
+    ensures { Scans text.now result }
 {
     if text[0] != b'(' {
-        return Scanned::refused(Answer::NOT_A_LIST);
+        return Err(Refusal::NotAList);
     }
     let mut p = Place::opened();
     while p.at < text.len() {
         let read = step::take(text, p);
-        let Step::Mark(next) = read else {
-            return Scanned::refused(step::fault_no(read));
+        // document 01 has it taken apart so
+        let Ok(next) = read else {
+            return Err(read.unwrap_err());
         };
         p = next;
         if p.depth == 0 {
             return ending(text, p.at, p.elements);
         }
     }
-    Scanned::refused(Answer::NOT_A_LIST)
+    Err(Refusal::NotAList)
+}
+
+// The bytes that the check takes.
+fn taken(text: &[u8]) -> Result<u32, Refusal>
+    ensures { outcome_of result ≡ answered_as (verdict text.now) }
+{
+    records::size_fault(text)?;
+    Ok(scan(text)?.taken)
 }
 
 pub fn check(text: &[u8]) -> Outcome
     ensures { result ≡ answered_as (verdict text.now) }
 {
-    let fault = records::size_fault(text);
-    if fault != Answer::DONE {
-        return Outcome::refused(fault);
-    }
-    let s = scan(text);
-    if s.answer == Answer::DONE {
-        Outcome::done(s.taken)
-    } else {
-        Outcome::refused(s.answer)
-    }
+    Outcome::from(taken(text))
 }
 
 fn rest_start(text: &[u8]) -> usize
     ensures { (result ≡ rest_at text.now) × (result ≤ length text.now) }
 {
-    let a = check(text);
-    if a.answer != Answer::DONE {
+    let Ok(taken) = taken(text) else {
         return text.len();
-    }
-    let start = a.count as usize;
-    if records::at_end(text, start) {
+    };
+    let start = taken as usize;
+    if records::at_end(&text[start..]) {
         text.len()
     } else {
         start

@@ -1,3 +1,4 @@
 pub mod Performs
 pub mod Midway
 pub mod Laws
+pub mod Tied

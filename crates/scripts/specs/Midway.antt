@@ -5,8 +5,7 @@ use Rattle.calls.specs.Run.{operations}
 use Rattle.ops.specs.Replies.{operation}
 use Rattle.pool.specs.Pool.{Pool, Sound}
 use Rattle.pool.specs.Script.{Operation, Run, performed}
-use Rattle.table.specs.View.{view, Table}
-use Rattle.table.specs.declared.Shape.{Shape}
+use Rattle.cells.specs.Lent.{Lent, on}
 
 -- operation i of a script
 abbrev pub operation_at : List ℕ → ℕ → Operation
@@ -26,11 +25,10 @@ left ss i p = performed p (operations (drop (operation_words * i) ss))
 abbrev pub resumed : ℕ → List ℕ → Run → Run
 resumed i us r = record { pool = r.pool; answer = r.answer; done = i + r.done; results = us ++ r.results }
 
--- i operations of the script ss are done: the table shows where they have come to, and their results stand before the
--- others
-pub record Midway (s : Shape) (ss rs₀ : List ℕ) (q : Run) (ts rs : List ℕ) (i : ℕ) : Type 0 where
-  pub table : Table s ts
-  pub sound : Sound (view s ts)
-  pub whole : q ≡ resumed i (take (result_words * i) rs) (left ss i (view s ts))
+-- i operations of the script ss are done: from v₀ the pool has come to v, and their results stand before the others
+pub record Midway (v₀ : Lent) (ss rs₀ : List ℕ) (q : Run) (v : Lent) (rs : List ℕ) (i : ℕ) : Type 0 where
+  pub kept : v ≡ on (λ _. v.pool) v₀
+  pub sound : Sound v.pool
+  pub whole : q ≡ resumed i (take (result_words * i) rs) (left ss i v.pool)
   pub size : length rs ≡ length rs₀
   pub rest : drop (result_words * i) rs ≡ drop (result_words * i) rs₀

@@ -6,15 +6,16 @@
 ghost use Rattle.std.specs.Prelude.{◌≡◌, ◌&&◌, suc, ◌+◌, ◌*◌, ◌≤◌, length};
 ghost use Rattle.pool.specs.Tally.{same};
 ghost use Rattle.pool.specs.Check.{chained, after_holders};
-ghost use Rattle.table.specs.View.{view, Table};
+ghost use Rattle.cells.specs.Views.{pool_of};
 ghost use Rattle.sound.specs.Decided.{Decided, Examined};
 ghost use Rattle.sound.specs.Mirror.{Room, ArrowMet, Stows, Refills, Counted, Copied, state_at};
 ghost use Rattle.sound.specs.Mirror.{Shown, Reached, Taking, ElementMet, Peeled};
 
-use table::Shape;
+use cells::seen::Seen;
 
 // What the work space does not say: whether all went well (1, else 0), the cell at hand (0: none), how many wait, and
-// how many are done. All are words of one size, so that no gaps are copied.
+// how many are done. All are words of one size: with a bool or an Option gaps are copied too, and the check is 1.5 to 4
+// times as slow.
 #[derive(Clone, Copy)]
 struct Peel {
     ok: usize,
@@ -23,68 +24,48 @@ struct Peel {
     gone: usize,
 }
 
-// What the check finds: whether the table is sound, and how many cells are free.
+// What the check finds: whether the table is sound, and how many cells are free. No Option, since `Examined` gives the
+// number of an unsound table too.
 #[derive(Clone, Copy)]
 pub struct Found {
     pub sound: bool,
     pub free: usize,
 }
 
-fn both(a: bool, b: bool) -> bool
-    ensures { result ≡ (a && b) }
-{
-    if a {
-        return b;
-    }
-    false
-}
-
+#[tactic(auto, unfolding(pool::specs::Tally::same))]
 pub fn one_if_none(r: usize) -> u32
     ensures { result ≡ same r 0 }
 {
-    if r == 0 {
-        return 1;
-    }
-    0
+    u32::from(r == 0)
 }
 
-// The counts go to the first words of the work space; gives the number of free cells.
-fn copy_counts(s: Shape, t: &[u32], w: &mut [u32]) -> usize
-    requires table { Table s t.now }
-    requires cells_in_bounds { s.cells + s.cells ≤ length w.old }
-    ensures { Copied s.cells (view s t.now).cells w.old w.new result }
+// The counts go to the first words of the work space, which stays a slice beside the table, as C lends it; gives the number
+// of free cells.
+fn copy_counts(t: Seen, w: &mut [u32]) -> usize
+    requires { t.shape.cells + t.shape.cells ≤ length w.old }
+    ensures { Copied t.entry.shape.cells (pool_of t.entry).cells w.old w.new result }
 {
-    let n = s.cells;
-    let mut i = 0;
     // a word of 32 bits, so that as many are added at a time as are copied
     let mut free: u32 = 0;
-    while i < n {
-        let r = table::count_of(s, t, i + 1);
+    for i in 0..t.shape.cells {
+        let r = t.count_of(i + 1);
         w[i] = r as u32;
         free += one_if_none(r);
-        i += 1;
     }
     free as usize
 }
 
 // Whether the chain from the first free cell is of that many free cells, and ends then.
-fn chain_holds(s: Shape, t: &[u32], free: usize) -> bool
-    requires { Table s t.now }
-    ensures { result ≡ chained free (view s t.now).cells (view s t.now).free }
+fn chain_holds(t: Seen, free: usize) -> bool
+    ensures { result ≡ chained free (pool_of t.entry).cells (pool_of t.entry).free }
 {
-    let mut x = table::free_head(s, t);
+    let mut x = t.free_head();
     let mut left = free;
     while x != 0 {
-        if x > s.cells {
+        if x > t.shape.cells || t.count_of(x) != 0 || left == 0 {
             return false;
         }
-        if table::count_of(s, t, x) != 0 {
-            return false;
-        }
-        if left == 0 {
-            return false;
-        }
-        x = table::next_of(s, t, x);
+        x = t.next_of(x);
         left -= 1;
     }
     left == 0
@@ -100,32 +81,17 @@ fn follow(n: usize, w: &mut [u32], x: usize, e: Peel) -> Peel
         return e;
     }
     if x > n {
-        return Peel {
-            ok: 0,
-            at: 0,
-            top: e.top,
-            gone: e.gone,
-        };
+        return Peel { ok: 0, at: 0, ..e };
     }
     let r = w[x - 1];
     if r == 0 {
-        return Peel {
-            ok: 0,
-            at: 0,
-            top: e.top,
-            gone: e.gone,
-        };
+        return Peel { ok: 0, at: 0, ..e };
     }
     w[x - 1] = r - 1;
     if r > 1 {
         return e;
     }
-    Peel {
-        ok: e.ok,
-        at: x,
-        top: e.top,
-        gone: e.gone,
-    }
+    Peel { at: x, ..e }
 }
 
 // The cell at hand waits.
@@ -140,10 +106,9 @@ fn stow(n: usize, w: &mut [u32], e: Peel) -> Peel
     let top = e.top;
     w[n + top] = x as u32;
     Peel {
-        ok: e.ok,
         at: 0,
         top: top + 1,
-        gone: e.gone,
+        ..e
     }
 }
 
@@ -160,129 +125,101 @@ fn refill(n: usize, w: &[u32], e: Peel) -> Peel
     }
     let top = e.top - 1;
     let x = w[n + top] as usize;
-    Peel {
-        ok: e.ok,
-        at: x,
-        top: top,
-        gone: e.gone,
-    }
+    Peel { at: x, top, ..e }
 }
 
 // Meets the arrows of all holders.
-fn meet_holders(s: Shape, t: &[u32], w: &mut [u32]) -> Peel
-    requires table { Table s t.now }
-    requires cells_in_bounds { s.cells + s.cells ≤ length w.old }
-    requires counted { Counted s.cells w.old (view s t.now).cells }
-    ensures { Shown s.cells w.old w.new result (after_holders (view s t.now)) }
+fn meet_holders(t: Seen, w: &mut [u32]) -> Peel
+    requires cells_in_bounds { t.shape.cells + t.shape.cells ≤ length w.old }
+    requires counted { Counted t.shape.cells w.old (pool_of t).cells }
+    ensures { Shown t.entry.shape.cells w.old w.new result (after_holders (pool_of t.entry)) }
 {
-    let n = s.cells;
+    let n = t.shape.cells;
     let mut e = Peel {
         ok: 1,
         at: 0,
         top: 0,
         gone: 0,
     };
-    let m = s.holders();
-    let mut h = 0;
-    while h < m {
-        let x = table::holder_of(s, t, h);
+    for h in 0..t.holders() {
+        let x = t.holder_of(h);
         let f = follow(n, w, x, e);
         e = stow(n, w, f);
-        h += 1;
     }
     e
 }
 
 // Takes the cell at hand: looks at its type and meets its element, which then waits if it has run out.
-fn meet_element(s: Shape, t: &[u32], w: &mut [u32], e: Peel) -> Peel
-    requires table { Table s t.now }
-    requires taking { Taking (view s t.now) s.cells w.old e }
-    ensures { ElementMet (view s t.now) s.cells w.old e w.new result }
+fn meet_element(t: Seen, w: &mut [u32], e: Peel) -> Peel
+    requires { Taking (pool_of t) t.shape.cells w.old e }
+    ensures { ElementMet (pool_of t.entry) t.entry.shape.cells w.old e w.new result }
 {
-    let n = s.cells;
+    let n = t.shape.cells;
     let c = e.at;
-    let gone = e.gone + 1;
-    let k = table::kind_of(s, t, c);
+    let d = Peel {
+        at: 0,
+        gone: e.gone + 1,
+        ..e
+    };
+    let k = t.kind_of(c);
     if k == 0 {
-        return Peel {
-            ok: e.ok,
-            at: 0,
-            top: e.top,
-            gone: gone,
-        };
+        return d;
     }
     if k > 1 {
-        return Peel {
-            ok: 0,
-            at: 0,
-            top: e.top,
-            gone: gone,
-        };
+        return Peel { ok: 0, ..d };
     }
-    let y = table::elem_of(s, t, c) as usize;
-    let d = Peel {
-        ok: e.ok,
-        at: 0,
-        top: e.top,
-        gone: gone,
-    };
+    let y = t.elem_of(c) as usize;
     let f = follow(n, w, y, d);
     stow(n, w, f)
 }
 
 // Meets the arrows of the cell at hand. A successor that has run out is followed at once.
-fn take_cell(s: Shape, t: &[u32], w: &mut [u32], e: Peel) -> Peel
-    requires table { Table s t.now }
-    requires taking { Taking (view s t.now) s.cells w.old e }
-    ensures { Reached s.cells w.old w.new result
-        (state_at (view s t.now) (suc e.gone)) }
+fn take_cell(t: Seen, w: &mut [u32], e: Peel) -> Peel
+    requires { Taking (pool_of t) t.shape.cells w.old e }
+    ensures { Reached t.entry.shape.cells w.old w.new result (state_at (pool_of t.entry) (suc e.gone)) }
 {
-    let n = s.cells;
-    let c = e.at;
-    let x = table::next_of(s, t, c);
-    let g = meet_element(s, t, w, e);
+    let n = t.shape.cells;
+    let x = t.next_of(e.at);
+    let g = meet_element(t, w, e);
     let h = follow(n, w, x, g);
     refill(n, w, h)
 }
 
 // Meets the arrows of the holders, and then of every cell that runs out.
-fn peel_all(s: Shape, t: &[u32], w: &mut [u32]) -> Peel
-    requires table { Table s t.now }
-    requires cells_in_bounds { s.cells + s.cells ≤ length w.old }
-    requires counted { Counted s.cells w.old (view s t.now).cells }
-    ensures { Peeled s.cells (view s t.now) w.old w.new result }
+fn peel_all(t: Seen, w: &mut [u32]) -> Peel
+    requires cells_in_bounds { t.shape.cells + t.shape.cells ≤ length w.old }
+    requires counted { Counted t.shape.cells w.old (pool_of t).cells }
+    ensures { Peeled t.entry.shape.cells (pool_of t.entry) w.old w.new result }
 {
-    let n = s.cells;
-    let f = meet_holders(s, t, w);
+    let n = t.shape.cells;
+    let f = meet_holders(t, w);
     let mut e = refill(n, w, f);
     while e.at != 0 {
-        e = take_cell(s, t, w, e);
+        e = take_cell(t, w, e);
     }
     e
 }
 
 // Looks at the whole table. The first 2 N words of the work space are 0 afterwards.
-pub fn examine(s: Shape, t: &[u32], w: &mut [u32]) -> Found
-    requires table { Table s t.now }
-    requires cells_in_bounds { 2 * s.cells ≤ length w.old }
-    ensures { Examined s t.now w.old w.new result }
+pub fn examine(t: Seen, w: &mut [u32]) -> Found
+    requires { 2 * t.shape.cells ≤ length w.old }
+    ensures { Examined t.entry.shape t.entry.words.now w.old w.new result }
 {
-    let n = s.cells;
-    let free = copy_counts(s, t, w);
-    let a = chain_holds(s, t, free);
-    let e = peel_all(s, t, w);
+    let n = t.shape.cells;
+    let free = copy_counts(t, w);
+    let a = chain_holds(t, free);
+    let e = peel_all(t, w);
     table::clear(w, 2 * n);
     Found {
-        sound: both(a, both(e.ok == 1, e.gone + free == n)),
+        sound: a && e.ok == 1 && e.gone + free == n,
         free,
     }
 }
 
 // What it says of the table alone.
-pub fn is_sound(s: Shape, t: &[u32], w: &mut [u32]) -> bool
-    requires table { Table s t.now }
-    requires cells_in_bounds { 2 * s.cells ≤ length w.old }
-    ensures { Decided s t.now w.old w.new result }
+pub fn is_sound(t: Seen, w: &mut [u32]) -> bool
+    requires { 2 * t.shape.cells ≤ length w.old }
+    ensures { Decided t.entry.shape t.entry.words.now w.old w.new result }
 {
-    examine(s, t, w).sound
+    examine(t, w).sound
 }

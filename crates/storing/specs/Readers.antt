@@ -1,9 +1,10 @@
 -- What the readers of a list and of an element ask and do. They go by a list whose elements lie ahead, and whose marks
 -- are still to come.
 use Rattle.std.specs.Prelude.{◌≡◌, List, ◌∷◌, ◌++◌, false, ℕ, ◌≤◌, drop}
-use Rattle.building.specs.Hooks.{hook_next}
+use Rattle.building.specs.Hooks.{hook_cell}
 use Rattle.building.specs.Underway.{LeadsTo, Comes, Steps}
 use Rattle.building.specs.declared.hook.Hook.{Hook}
+use Rattle.building.specs.declared.hook.Hook.TheVariants.{Next}
 use Rattle.lists.specs.Lst.{Lst, len}
 use Rattle.pool.specs.Pool.{Pool}
 use Rattle.table.specs.declared.Form.{Form}
@@ -65,7 +66,7 @@ pub record Ended (s : Shape) (h : ℕ) (bytes later : List ℕ) (ts : List ℕ) 
     (us : List ℕ) (end : ℕ) : Type 0 where
   pub on : at ≤ end
   pub behind : drop end bytes ≡ later
-  pub steps : (cs : List ℕ) → Steps s h ts k (k.cell ∷ cs) (marks_of false l) us (hook_next k.cell) cs
+  pub steps : (cs : List ℕ) → Steps s h ts k (hook_cell k ∷ cs) (marks_of false l) us (Next (hook_cell k)) cs
 
 abbrev pub ReadsList : Shape → ℕ → List ℕ → List ℕ → ℕ → ℕ → Hook → List ℕ → ℕ → Type 0
 ReadsList s h bytes ts at n k us r =

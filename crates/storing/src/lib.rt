@@ -22,26 +22,22 @@ pub struct Spot {
     pub hook: Hook,
 }
 
-// The element at a place; the hook goes behind it.
+// The element at a spot; the hook goes behind it.
 #[cycle(element_list)]
-fn element(s: Shape, t: &mut [u32], h: usize, bytes: &[u8], at: usize, k: Hook) -> Spot
+fn element(s: Shape, t: &mut [u32], h: usize, bytes: &[u8], spot: Spot) -> Spot
     requires table { Table s t.old }
     requires h_bound { h < holder_count s }
-    requires due_element { DueElement s t.old h bytes.now at k }
-    ensures { ReadsElement s h bytes.now t.old at k t.new result }
+    requires due_element { DueElement s t.old h bytes.now spot.at spot.hook }
+    ensures { ReadsElement s h bytes.now t.old spot.at spot.hook t.new result }
 {
-    let n = numbers::number_at(bytes, at);
+    let n = numbers::number_there(bytes, spot.at);
     if n.value % 2 == 0 {
-        let behind = building::add_atom(s, t, h, k, (n.value / 2) as u32);
-        return Spot {
-            at: n.end,
-            hook: behind,
-        };
+        let hook = building::add_atom(s, t, h, spot.hook, (n.value / 2) as u32);
+        return Spot { at: n.end, hook };
     }
-    let inside = building::begin_list(s, t, h, k);
-    let f = s.form;
-    let end = list(
-        f,
+    let inside = building::begin_list(s, t, h, spot.hook);
+    let at = list(
+        s.form,
         s.cells,
         s.holders,
         t,
@@ -51,13 +47,9 @@ fn element(s: Shape, t: &mut [u32], h: usize, bytes: &[u8], at: usize, k: Hook) 
         inside,
         n.value / 2,
     );
-    let behind = Hook {
-        cell: inside.cell,
-        inside: 0,
-    };
     Spot {
-        at: end,
-        hook: behind,
+        at,
+        hook: Hook::Next(inside.cell()),
     }
 }
 
@@ -86,12 +78,10 @@ fn list(
         holders,
     };
     let mut spot = Spot { at, hook: k };
-    let mut left = n;
-    while left > 0 {
-        spot = element(s, t, h, bytes, spot.at, spot.hook);
-        left -= 1;
+    for _ in 0..n {
+        spot = element(s, t, h, bytes, spot);
     }
-    building::shut_list(s, t, h, spot.hook, k.cell);
+    building::shut_list(s, t, h, spot.hook, k.cell());
     spot.at
 }
 
@@ -104,18 +94,16 @@ pub fn build(s: Shape, t: &mut [u32], h: usize, bytes: &[u8])
     requires bytes_bound { extent (list_in bytes.now) ≤ frees (view s t.old).cells }
     ensures { Shows s t.new (read (view s t.old) h (list_in bytes.now)) }
 {
-    let n = numbers::number_at(bytes, 0);
-    let outermost = Hook { cell: 0, inside: 0 };
-    let f = s.form;
+    let n = numbers::number_there(bytes, 0);
     list(
-        f,
+        s.form,
         s.cells,
         s.holders,
         t,
         h,
         bytes,
         n.end,
-        outermost,
+        Hook::HOLDER,
         n.value / 2,
     );
 }

@@ -1,3 +1,4 @@
+pub mod FieldLaws
 pub mod TabLaws
 pub mod PackLaws
 pub mod PutLaws

@@ -4,7 +4,7 @@
 
 ghost use Rattle.std.specs.Prelude.{◌≡◌, true, false, ◌+◌, ◌*◌, ◌^◌, ◌≤◌, ◌<◌, length, set};
 ghost use Rattle.pool.specs.Pool.{at, kind_of, elem_of, count_of, next_of, holder};
-ghost use Rattle.table.specs.Fields.{field, put_field};
+ghost use Rattle.table.specs.Fields.{field, field_no, put_field};
 ghost use Rattle.pool.specs.Setters.{cell, put_cell, put_count, put_next, put_free, put_holder};
 ghost use Rattle.table.specs.Limits.{packs, head, cells_most, holders_fit, holders_told, cells_in};
 ghost use Rattle.table.specs.Pack.{part, room, with_part};
@@ -13,8 +13,8 @@ ghost use Rattle.table.specs.Blank.{headed, blank_pool};
 ghost use Rattle.table.specs.View.{four, word_count, holder_count, greatest_count, start, cell_word, stored_two, view};
 ghost use Rattle.table.specs.View.{Table, IsCell, Shows};
 
-#[derive(Clone, Copy)]
-pub struct Cell(pub usize);
+// The limits of cells of four words.
+pub struct Cell;
 
 impl Cell {
     pub const MOST: usize = 4000;
@@ -26,17 +26,24 @@ impl Cell {
 }
 
 // A cell in two words: type, count and successor in the first, the element in the second.
-#[derive(Clone, Copy)]
-pub struct Pair(pub usize);
+struct Pair;
 
 impl Pair {
-    pub const MOST: usize = 8000;
+    const MOST: usize = 8000;
 
-    pub const WORDS: usize = 2;
+    const WORDS: usize = 2;
+
+    // what one of the type adds to the first word, and one of the count
+    const KIND: u32 = 1 << 31;
+
+    const COUNT: u32 = 1 << 16;
+
+    // what the count has room for
+    const COUNTS: u32 = Pair::KIND / Pair::COUNT;
 }
 
-#[derive(Clone, Copy)]
-pub struct Holder(pub usize);
+// The limits of holders, which are cell numbers.
+pub struct Holder;
 
 impl Holder {
     pub const MOST: usize = 64;
@@ -45,6 +52,15 @@ impl Holder {
 
     // where the table tells their number
     pub const MANY: usize = 256;
+}
+
+// What a cell holds, in the order of its four words.
+#[derive(Clone, Copy)]
+enum Field {
+    Kind,
+    Elem,
+    Count,
+    Next,
 }
 
 // How a pool is laid out in words: four words a cell, two words a cell, and two words a cell with the number of holders
@@ -61,11 +77,7 @@ impl Form {
     pub fn packs(self) -> bool
         ensures { result ≡ packs self }
     {
-        match self {
-            Form::Four => false,
-            Form::Packed => true,
-            Form::Wide => true,
-        }
+        matches!(self, Form::Packed | Form::Wide)
     }
 
     // The words before the holders.
@@ -73,8 +85,7 @@ impl Form {
         ensures { (result ≡ head self) × (result ≤ 3) }
     {
         match self {
-            Form::Four => Holder::AT,
-            Form::Packed => Holder::AT,
+            Form::Four | Form::Packed => Holder::AT,
             Form::Wide => Holder::AT + 1,
         }
     }
@@ -84,8 +95,7 @@ impl Form {
     {
         match self {
             Form::Four => Cell::MOST,
-            Form::Packed => Pair::MOST,
-            Form::Wide => Pair::MOST,
+            Form::Packed | Form::Wide => Pair::MOST,
         }
     }
 
@@ -94,14 +104,8 @@ impl Form {
         ensures { result ≡ holders_fit self h }
     {
         match self {
-            Form::Four => h == Holder::MOST,
-            Form::Packed => h == Holder::MOST,
-            Form::Wide => {
-                if h < 1 {
-                    return false;
-                }
-                h <= Holder::MANY
-            }
+            Form::Four | Form::Packed => h == Holder::MOST,
+            Form::Wide => (1..=Holder::MANY).contains(&h),
         }
     }
 
@@ -118,7 +122,8 @@ impl Form {
     }
 }
 
-// The layout of a table: what goes with its words everywhere.
+// The layout of a table. Its words stay a slice beside it here, as the C calls lend them; `cells` lends both as one value.
+// The numbers have no bounds of their own: `fits` is lent any, and says whether they are those of a table.
 #[derive(Clone, Copy)]
 pub struct Shape {
     pub form: Form,
@@ -152,8 +157,7 @@ impl Shape {
         requires { self.holders ≤ 256 }
         ensures { (result ≡ start self) × (result ≤ 259) }
     {
-        let f = self.form;
-        f.head() + self.holders
+        self.form.head() + self.holders
     }
 
     // The words of a whole table.
@@ -161,8 +165,7 @@ impl Shape {
         requires { (self.cells < 2 ^ 32) × (self.holders ≤ 256) }
         ensures { result ≡ word_count self }
     {
-        let f = self.form;
-        self.start() + f.words(self.cells)
+        self.start() + self.form.words(self.cells)
     }
 }
 
@@ -170,17 +173,7 @@ impl Shape {
 pub fn fits(s: Shape, words: usize) -> bool
     ensures { result ≡ sizes_fit s words }
 {
-    if s.cells < 1 {
-        return false;
-    }
-    let f = s.form;
-    if s.cells > f.most() {
-        return false;
-    }
-    if !f.takes(s.holders) {
-        return false;
-    }
-    words == s.words()
+    (1..=s.form.most()).contains(&s.cells) && s.form.takes(s.holders) && words == s.words()
 }
 
 // The holders that a table of a form tells.
@@ -188,42 +181,24 @@ fn holders_told(f: Form, t: &[u32]) -> usize
     ensures { result ≡ holders_told f t.now }
 {
     match f {
-        Form::Four => Holder::MOST,
-        Form::Packed => Holder::MOST,
-        Form::Wide => {
-            if t.len() < 3 {
-                return 0;
-            }
-            t[2] as usize
-        }
+        Form::Four | Form::Packed => Holder::MOST,
+        Form::Wide => t.get(2).copied().unwrap_or(0) as usize,
     }
 }
 
-// The shape of a table of the form, with no cells where the words are none.
+// The shape of a table of the form, with no cells where the words are none: no Option, as the definition gives a shape.
 pub fn shape_of(f: Form, t: &[u32]) -> Shape
     ensures { result ≡ shape_of f t.now }
 {
-    let h = holders_told(f, t);
-    if t.len() == 0 {
-        return Shape {
-            form: f,
-            cells: 0,
-            holders: h,
-        };
-    }
-    let n = t[0] as usize;
-    let s = Shape {
+    let told = Shape {
         form: f,
-        cells: n,
-        holders: h,
+        cells: t.first().copied().unwrap_or(0) as usize,
+        holders: holders_told(f, t),
     };
-    if fits(s, t.len()) {
-        return s;
-    }
-    Shape {
-        form: f,
-        cells: 0,
-        holders: h,
+    if fits(told, t.len()) {
+        told
+    } else {
+        Shape { cells: 0, ..told }
     }
 }
 
@@ -232,11 +207,7 @@ pub fn clear(w: &mut [u32], n: usize)
     requires { n ≤ length w.old }
     ensures { w.new ≡ cleared n w.old }
 {
-    let mut i = 0;
-    while i < n {
-        w[i] = 0;
-        i += 1;
-    }
+    w[..n].fill(0);
 }
 
 // The number of cells, and that of holders where the form tells it.
@@ -245,8 +216,7 @@ fn tell_head(s: Shape, t: &mut [u32])
     ensures { t.new ≡ headed s.form s.holders s.cells t.old }
 {
     t[0] = s.cells as u32;
-    let f = s.form;
-    if f.head() > Holder::AT {
+    if matches!(s.form, Form::Wide) {
         t[2] = s.holders as u32;
     }
 }
@@ -260,113 +230,100 @@ pub fn lay_out(s: Shape, t: &mut [u32])
     tell_head(s, t);
 }
 
-// Field k of the two words of a cell.
-fn part_of(w: u32, e: u32, k: usize) -> u32
-    requires { k < 4 }
-    ensures { result ≡ part k w e }
+// A field of the two words of a cell.
+fn part_of(w: u32, e: u32, f: Field) -> u32
+    ensures { result ≡ part (field_no f) w e }
 {
-    if k == 0 {
-        return w / 2147483648;
+    match f {
+        Field::Kind => w / Pair::KIND,
+        Field::Elem => e,
+        Field::Count => w / Pair::COUNT % Pair::COUNTS,
+        Field::Next => w % Pair::COUNT,
     }
-    if k == 1 {
-        return e;
-    }
-    if k == 2 {
-        return w / 65536 % 32768;
-    }
-    w % 65536
 }
 
-// The first word with v in field k, the other two as they were.
-fn with_part(w: u32, k: usize, v: u32) -> u32
-    requires { (k < 4) × (v < room k) }
-    ensures { result ≡ with_part k v w }
+// The first word with v in a field, the other two as they were.
+fn with_part(w: u32, f: Field, v: u32) -> u32
+    requires { v < room (field_no f) }
+    ensures { result ≡ with_part (field_no f) v w }
 {
-    if k == 0 {
-        return w % 2147483648 + 2147483648 * v;
+    match f {
+        Field::Kind => w % Pair::KIND + Pair::KIND * v,
+        Field::Elem => w,
+        Field::Count => w / Pair::KIND * Pair::KIND + Pair::COUNT * v + w % Pair::COUNT,
+        Field::Next => w / Pair::COUNT * Pair::COUNT + v,
     }
-    if k == 1 {
-        return w;
-    }
-    if k == 2 {
-        return w / 2147483648 * 2147483648 + 65536 * v + w % 65536;
-    }
-    w / 65536 * 65536 + v
 }
 
-// Field k of cell i + 1, where the cells begin at word a and have two words each.
-fn get_two(t: &[u32], a: usize, i: usize, k: usize) -> u32
-    requires i_in_bounds { a + 2 * i + 1 < length t.now }
-    requires k_bound { k < 4 }
-    ensures { result ≡ cell_word true a k t.now i }
+// A field of cell i + 1, where the cells begin at word a and have two words each.
+fn get_two(t: &[u32], a: usize, i: usize, f: Field) -> u32
+    requires { a + 2 * i + 1 < length t.now }
+    ensures { result ≡ cell_word true a (field_no f) t.now i }
 {
     let b = a + Pair::WORDS * i;
-    part_of(t[b], t[b + 1], k)
+    part_of(t[b], t[b + 1], f)
 }
 
-// The same, where they have four.
-fn get_four(t: &[u32], i: usize, k: usize) -> u32
-    requires i_in_bounds { 66 + 4 * i + 3 < length t.now }
-    requires k_bound { k < 4 }
-    ensures { result ≡ cell_word false 66 k t.now i }
+// The same, where they have four words.
+fn get_four(t: &[u32], i: usize, f: Field) -> u32
+    requires { 66 + 4 * i + 3 < length t.now }
+    ensures { result ≡ cell_word false 66 (field_no f) t.now i }
 {
-    t[Cell::AT + Cell::WORDS * i + k]
+    t[Cell::AT + Cell::WORDS * i + f as usize]
 }
 
-fn get(s: Shape, t: &[u32], c: usize, k: usize) -> u32
+fn get(s: Shape, t: &[u32], c: usize, f: Field) -> u32
     requires table { Table s t.now }
     requires cell { IsCell s c }
-    requires k_bound { k < 4 }
-    ensures { result ≡ field k (at (view s t.now).cells c) }
+    ensures { result ≡ field (field_no f) (at (view s t.now).cells c) }
 {
-    let f = s.form;
-    if f.packs() {
-        return get_two(t, s.start(), c - 1, k);
+    if s.form.packs() {
+        get_two(t, s.start(), c - 1, f)
+    } else {
+        get_four(t, c - 1, f)
     }
-    get_four(t, c - 1, k)
 }
 
-fn put_two(t: &mut [u32], a: usize, i: usize, k: usize, v: u32)
+fn put_two(t: &mut [u32], a: usize, i: usize, f: Field, v: u32)
     requires i_in_bounds { a + 2 * i + 1 < length t.old }
-    requires k_bound { (k < 4) × (v < room k) }
-    ensures { t.new ≡ stored_two a i k v t.old }
+    requires v_bound { v < room (field_no f) }
+    ensures { t.new ≡ stored_two a i (field_no f) v t.old }
 {
     let b = a + Pair::WORDS * i;
-    if k == 1 {
-        t[b + 1] = v;
-    } else {
-        t[b] = with_part(t[b], k, v);
+    match f {
+        Field::Elem => t[b + 1] = v,
+        _ => t[b] = with_part(t[b], f, v),
     }
 }
 
-fn put_four(t: &mut [u32], i: usize, k: usize, v: u32)
-    requires i_in_bounds { 66 + 4 * i + 3 < length t.old }
-    requires k_bound { k < 4 }
-    ensures { t.new ≡ set t.old (66 + 4 * i + k) v }
+fn put_four(t: &mut [u32], i: usize, f: Field, v: u32)
+    requires { 66 + 4 * i + 3 < length t.old }
+    ensures { t.new ≡ set t.old (66 + 4 * i + field_no f) v }
 {
-    t[Cell::AT + Cell::WORDS * i + k] = v;
+    t[Cell::AT + Cell::WORDS * i + f as usize] = v;
 }
 
-fn put_word(s: Shape, t: &mut [u32], c: usize, k: usize, v: u32)
+fn put_word(s: Shape, t: &mut [u32], c: usize, f: Field, v: u32)
     requires table { Table s t.old }
     requires cell { IsCell s c }
-    requires k_bound { (k < 4) × (v < room k) }
-    ensures { Shows s t.new (put_field k c v (view s t.old)) }
+    requires v_bound { v < room (field_no f) }
+    ensures { Shows s t.new (put_field (field_no f) c v (view s t.old)) }
 {
-    let f = s.form;
-    if f.packs() {
-        put_two(t, s.start(), c - 1, k, v);
+    if s.form.packs() {
+        put_two(t, s.start(), c - 1, f, v);
     } else {
-        put_four(t, c - 1, k, v);
+        put_four(t, c - 1, f, v);
     }
 }
 
+// A number and no enum, as `set_cell` takes it: a table that is not sound may have more than 1 there. Cells and holders are
+// numbers too: that one is in range ties it to its table.
 pub fn kind_of(s: Shape, t: &[u32], c: usize) -> u32
     requires table { Table s t.now }
     requires cell { IsCell s c }
     ensures { result ≡ kind_of (view s t.now).cells c }
 {
-    get(s, t, c, 0)
+    get(s, t, c, Field::Kind)
 }
 
 pub fn elem_of(s: Shape, t: &[u32], c: usize) -> u32
@@ -374,7 +331,7 @@ pub fn elem_of(s: Shape, t: &[u32], c: usize) -> u32
     requires cell { IsCell s c }
     ensures { result ≡ elem_of (view s t.now).cells c }
 {
-    get(s, t, c, 1)
+    get(s, t, c, Field::Elem)
 }
 
 pub fn count_of(s: Shape, t: &[u32], c: usize) -> usize
@@ -382,7 +339,7 @@ pub fn count_of(s: Shape, t: &[u32], c: usize) -> usize
     requires cell { IsCell s c }
     ensures { (result ≡ count_of (view s t.now).cells c) × (result < 2 ^ 32) }
 {
-    get(s, t, c, 2) as usize
+    get(s, t, c, Field::Count) as usize
 }
 
 pub fn next_of(s: Shape, t: &[u32], c: usize) -> usize
@@ -390,7 +347,7 @@ pub fn next_of(s: Shape, t: &[u32], c: usize) -> usize
     requires cell { IsCell s c }
     ensures { (result ≡ next_of (view s t.now).cells c) × (result < 2 ^ 32) }
 {
-    get(s, t, c, 3) as usize
+    get(s, t, c, Field::Next) as usize
 }
 
 pub fn set_count(s: Shape, t: &mut [u32], c: usize, v: usize)
@@ -399,7 +356,7 @@ pub fn set_count(s: Shape, t: &mut [u32], c: usize, v: usize)
     requires v_bound { v ≤ greatest_count s }
     ensures { Shows s t.new (put_count c v (view s t.old)) }
 {
-    put_word(s, t, c, 2, v as u32);
+    put_word(s, t, c, Field::Count, v as u32);
 }
 
 pub fn set_elem(s: Shape, t: &mut [u32], c: usize, v: u32)
@@ -407,7 +364,7 @@ pub fn set_elem(s: Shape, t: &mut [u32], c: usize, v: u32)
     requires cell { IsCell s c }
     ensures { Shows s t.new (put_field 1 c v (view s t.old)) }
 {
-    put_word(s, t, c, 1, v);
+    put_word(s, t, c, Field::Elem, v);
 }
 
 pub fn set_next(s: Shape, t: &mut [u32], c: usize, v: usize)
@@ -416,7 +373,7 @@ pub fn set_next(s: Shape, t: &mut [u32], c: usize, v: usize)
     requires v_le_cells { v ≤ s.cells }
     ensures { Shows s t.new (put_next c v (view s t.old)) }
 {
-    put_word(s, t, c, 3, v as u32);
+    put_word(s, t, c, Field::Next, v as u32);
 }
 
 // All four fields of a cell.
@@ -426,10 +383,10 @@ pub fn set_cell(s: Shape, t: &mut [u32], c: usize, kind: u32, elem: u32, count: 
     requires kind_bound { (kind ≤ 1) × (count ≤ greatest_count s) × (next ≤ s.cells) }
     ensures { Shows s t.new (put_cell c (cell kind elem count next) (view s t.old)) }
 {
-    put_word(s, t, c, 0, kind);
-    put_word(s, t, c, 1, elem);
-    put_word(s, t, c, 2, count as u32);
-    put_word(s, t, c, 3, next as u32);
+    put_word(s, t, c, Field::Kind, kind);
+    put_word(s, t, c, Field::Elem, elem);
+    put_word(s, t, c, Field::Count, count as u32);
+    put_word(s, t, c, Field::Next, next as u32);
 }
 
 pub fn free_head(s: Shape, t: &[u32]) -> usize
@@ -452,8 +409,7 @@ pub fn holder_of(s: Shape, t: &[u32], h: usize) -> usize
     requires h_bound { h < holder_count s }
     ensures { (result ≡ holder (view s t.now) h) × (result < 2 ^ 32) }
 {
-    let f = s.form;
-    t[f.head() + h] as usize
+    t[s.form.head() + h] as usize
 }
 
 pub fn set_holder(s: Shape, t: &mut [u32], h: usize, v: usize)
@@ -462,6 +418,5 @@ pub fn set_holder(s: Shape, t: &mut [u32], h: usize, v: usize)
     requires v_le_cells { v ≤ s.cells }
     ensures { Shows s t.new (put_holder h v (view s t.old)) }
 {
-    let f = s.form;
-    t[f.head() + h] = v as u32;
+    t[s.form.head() + h] = v as u32;
 }

@@ -1,14 +1,9 @@
 -- Bytes laid over others: where they come, what is before and behind them stays.
-use Rattle.std.specs.Prelude.{ℕ, ◌+◌, Bool, cond, List, [], ◌++◌, reverse, length, take, drop}
+use Rattle.std.specs.Prelude.{ℕ, ◌+◌, Bool, cond, List, ◌++◌, reverse, length, take, drop}
 use Rattle.calls.specs.Entry.{over}
-use Rattle.groups.specs.Groups.{number}
 
 abbrev pub laid : List ℕ → ℕ → List ℕ → List ℕ
 laid old at bs = take at old ++ (bs ++ drop (at + length bs) old)
-
--- the groups of a number that comes, if one does
-abbrev pub coming : Bool → ℕ → List ℕ
-coming c v = cond c (number v) []
 
 -- put out with the last byte first, or only counted
 abbrev pub laid_back : Bool → List ℕ → ℕ → List ℕ → List ℕ

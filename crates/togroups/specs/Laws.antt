@@ -7,7 +7,5 @@ pub mod AtomLaws
 pub mod StepLaws
 pub mod LaidLaws
 pub mod PassLaws
-pub mod StraightLaws
 pub mod PutLaws
-pub mod TurnLaws
 pub mod MoveLaws

@@ -6,5 +6,4 @@ pub mod Walking
 pub mod Laid
 pub mod Passing
 pub mod Turned
-pub mod Straight
 pub mod Laws

@@ -1,6 +1,6 @@
 -- Where the pass from the end of a text stands: the elements met of each list that is open, and the groups of what is
 -- behind.
-use Rattle.std.specs.Prelude.{ℕ, suc, ◌+◌, ◌-◌, ◌*◌, ◌<◌, ◌≤◌, ◌≡◌, Bool, true, false, cond, List, [], ◌∷◌, ◌++◌, length, get_or, drop}
+use Rattle.std.specs.Prelude.{ℕ, suc, ◌+◌, ◌-◌, ◌*◌, ◌<◌, ◌≤◌, ◌≡◌, true, false, Option, None, Some, IfSome, List, [], ◌∷◌, ◌++◌, length, get_or, drop}
 use Rattle.groups.specs.Groups.{numbers_end, number}
 use Rattle.lists.specs.Lst.{Lst, len}
 use Rattle.text.specs.Limits.{levels}
@@ -12,31 +12,31 @@ use Rattle.togroups.specs.OpenLists.{groups_in, Within}
 use Rattle.togroups.specs.declared.atoms.Atom.{Atom}
 use Rattle.togroups.specs.declared.walk.Walk.{Walk}
 
-abbrev pub walk : ℕ → ℕ → ℕ → ℕ → Bool → Walk
-walk i d n v c = record { at = i; depth = d; count = n; number = v; comes = c }
+abbrev pub walk : ℕ → ℕ → ℕ → Option ℕ → Walk
+walk i d n v = record { at = i; depth = d; count = n; number = v }
 
 abbrev pub behind : ℕ → Walk
-behind i = walk i 0 0 0 false
+behind i = walk i 0 0 None
 
 -- ")"
 abbrev pub shut_at : Walk → Walk
-shut_at w = walk (w.at - 1) (w.depth + 1) 0 0 false
+shut_at w = walk (w.at - 1) (w.depth + 1) 0 None
 
 -- "(" of an element
 abbrev pub open_at : List ℕ → Walk → Walk
 open_at outer w =
-    walk (w.at - 1) (w.depth - 1) (get_or outer (w.depth - 1) 0 + 1) (2 * w.count + 1) true
+    walk (w.at - 1) (w.depth - 1) (get_or outer (w.depth - 1) 0 + 1) (Some (2 * w.count + 1))
 
 -- an atom
 abbrev pub pass_at : Walk → Atom → Walk
-pass_at w a = walk a.from w.depth (w.count + 1) (2 * a.value) true
+pass_at w a = walk a.from w.depth (w.count + 1) (Some (2 * a.value))
 
 abbrev pub AtomAt : List ℕ → Walk → Walk → Type 0
 AtomAt t w r = (a : Atom) × Before t w.at a × (r ≡ pass_at w a)
 
 -- a "," or fill
 abbrev pub blank_at : Walk → Walk
-blank_at w = walk (w.at - 1) w.depth w.count 0 false
+blank_at w = walk (w.at - 1) w.depth w.count None
 
 -- the elements met of the open lists, at the innermost and above
 abbrev pub Above : List ℕ → List Lst → Type 0
@@ -65,12 +65,13 @@ pub record Walking (t outer : List ℕ) (w : Walk) : Type 0 where
 abbrev pub groups_from : List ℕ → ℕ → List ℕ
 groups_from t i = groups_in (open_in (drop i t))
 
--- the number that a step has met
-abbrev pub met : Walk → List ℕ
-met r = cond r.comes (number r.number) []
+-- those of the number that a step has met, if it met one
+abbrev pub met : Option ℕ → List ℕ
+met None = []
+met (Some v) = number v
 
 pub record Stepped (t next : List ℕ) (w r : Walk) : Type 0 where
   pub walks : Walking t next r
   pub back : r.at < w.at
-  pub groups : groups_from t r.at ≡ met r ++ groups_from t w.at
-  pub small : r.number < numbers_end
+  pub groups : groups_from t r.at ≡ met r.number ++ groups_from t w.at
+  pub small : IfSome r.number (λ v. v < numbers_end)

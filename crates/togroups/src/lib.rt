@@ -4,6 +4,7 @@
 #![tactic(auto)]
 
 ghost use Rattle.std.specs.Prelude.{◌≡◌, leb, length};
+ghost use Rattle.answers.specs.Outcomes.{moved_of};
 ghost use Rattle.calls.specs.Promised.{Moves};
 ghost use Rattle.calls.specs.Move.{put_out, moved_from};
 ghost use Rattle.groups.specs.Groups.{groups_of};
@@ -12,12 +13,12 @@ ghost use Rattle.text.specs.Marks.{list_in};
 ghost use Rattle.text.specs.Text.{verdict, done};
 ghost use Rattle.togroups.specs.Listed.{Listed};
 
-use answers::{Answer, Moved};
+use crate::put::{Counting, Putting};
+use answers::{Moved, Passed, Refusal};
 
 pub mod atoms;
 pub mod pass;
 pub mod put;
-pub mod turn;
 pub mod walk;
 
 // Groups are no longer than their text: where there is room for that they need not be counted.
@@ -26,39 +27,37 @@ fn has_room(text: &[u8], out: &mut [u8]) -> bool
     ensures value { result ≡ leb (length (groups_of (list_in text.now))) (length out.old) }
     ensures out_unchanged { out.new ≡ out.old }
 {
-    if text.len() <= out.len() {
-        return true;
-    }
-    let size = pass::pass(text, out, false);
-    size <= out.len()
+    text.len() <= out.len() || pass::pass::<Counting>(text, out) <= out.len()
 }
 
 // The list of a text of which so many bytes are taken.
-fn put_out(text: &[u8], taken: u32, out: &mut [u8]) -> Moved
+fn put_out(text: &[u8], taken: u32, out: &mut [u8]) -> Result<Passed, Refusal>
     requires { verdict text.now ≡ done taken }
-    ensures { Moves result out.new (put_out Groups taken (list_in text.now) out.old) }
+    ensures { Moves (moved_of result) out.new (put_out Groups taken (list_in text.now) out.old) }
 {
-    let end = taken as usize;
-    let whole = &text[..end];
+    let whole = &text[..taken as usize];
     if !has_room(whole, out) {
-        return Moved::refused(Answer::OUTPUT);
+        return Err(Refusal::Output);
     }
-    let size = pass::pass(whole, out, true);
-    turn::turn(out, size);
-    Moved::done(taken, size as u32)
+    let size = pass::pass::<Putting>(whole, out);
+    out[..size].reverse();
+    Ok(Passed {
+        taken,
+        written: size as u32,
+    })
 }
 
 // OUTPUT comes after every fault of the text, and the output is touched only where the list is put out.
+fn move_list(text: &[u8], out: &mut [u8]) -> Result<Passed, Refusal>
+    ensures { Moves (moved_of result) out.new (moved_from Text text.now out.old) }
+{
+    records::size_fault(text)?;
+    let found = scan::scan(text)?;
+    put_out(text, found.taken, out)
+}
+
 pub fn to_groups(text: &[u8], out: &mut [u8]) -> Moved
     ensures { Moves result out.new (moved_from Text text.now out.old) }
 {
-    let fault = records::size_fault(text);
-    if fault != Answer::DONE {
-        return Moved::refused(fault);
-    }
-    let s = scan::scan(text);
-    if s.answer != Answer::DONE {
-        return Moved::refused(s.answer);
-    }
-    put_out(text, s.taken, out)
+    Moved::from(move_list(text, out))
 }

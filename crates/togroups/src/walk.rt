@@ -8,21 +8,20 @@ ghost use Rattle.togroups.specs.Listed.{Listed};
 ghost use Rattle.togroups.specs.Walking.{behind, shut_at, open_at, AtomAt, Walking, Stepped};
 
 use crate::atoms;
-use scan::limits::Level;
+use scan::limits::PerLevel;
 use scan::octals;
 
-// With `comes`, the number that was met last.
+// With the number that the last step met, if it met one.
 #[derive(Clone, Copy)]
 pub struct Walk {
     pub at: usize,
     pub depth: usize,
     pub count: u32,
-    pub number: u64,
-    pub comes: bool,
+    pub number: Option<u64>,
 }
 
 // The elements met of each open list, the outermost first at 1, but for the innermost.
-pub type Outer = [u32; Level::MOST as usize];
+pub type Outer = PerLevel<u32>;
 
 impl Walk {
     // behind the text
@@ -33,8 +32,7 @@ impl Walk {
             at: end,
             depth: 0,
             count: 0,
-            number: 0,
-            comes: false,
+            number: None,
         }
     }
 }
@@ -50,8 +48,7 @@ fn shut(outer: &mut Outer, w: Walk) -> Walk
         at: w.at - 1,
         depth: depth + 1,
         count: 0,
-        number: 0,
-        comes: false,
+        number: None,
     }
 }
 
@@ -66,8 +63,7 @@ fn open(outer: &Outer, w: Walk) -> Walk
         at: w.at - 1,
         depth,
         count: outer[depth] + 1,
-        number: 2 * w.count as u64 + 1,
-        comes: true,
+        number: Some(2 * u64::from(w.count) + 1),
     }
 }
 
@@ -82,13 +78,13 @@ fn atom(text: &[u8], w: Walk) -> Walk
         at: a.from,
         depth: w.depth,
         count: w.count + 1,
-        number: 2 * a.value,
-        comes: true,
+        number: Some(2 * a.value),
     }
 }
 
 // One element or bracket back, or one character that is neither. A "," has a step of its own: the processor then
-// guesses where the walk goes on, and need not wait for the character.
+// guesses where the walk goes on, and need not wait for the character. What is known of the text stays a clause: a slice
+// with a type of its own would be made of it in one place and say no more.
 pub fn step(text: &[u8], outer: &mut Outer, w: Walk) -> Walk
     requires listed { Listed text.now }
     requires walking { Walking text.now outer.old w }
@@ -109,7 +105,6 @@ pub fn step(text: &[u8], outer: &mut Outer, w: Walk) -> Walk
         at: last,
         depth: w.depth,
         count: w.count,
-        number: 0,
-        comes: false,
+        number: None,
     }
 }

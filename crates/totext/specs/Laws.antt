@@ -1,5 +1,4 @@
 pub mod SizingLaws
-pub mod NumberAt
 pub mod CheckingLaws
 pub mod TurnLaws
 pub mod PartLaws

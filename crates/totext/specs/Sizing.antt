@@ -2,7 +2,7 @@
 use Rattle.std.specs.Prelude.{ℕ, ◌+◌, ◌/◌, ◌%◌, ◌<◌, List, [], ◌∷◌, ◌++◌, cond, eqb, length}
 use Rattle.lists.specs.Lst.{Lst, nil, atom, list}
 use Rattle.groups.specs.Groups.{numbers_end, number, atom_number, list_number}
-use Rattle.writing.specs.Numeral.{numeral}
+use Rattle.octal.specs.Numeral.{numeral}
 
 -- the numbers of the elements, and those of the list
 unfoldable pub inside : Lst → List ℕ

@@ -1,7 +1,7 @@
 -- One turn of the writing: ")", an atom or "(", with "," where a further element follows, and where it then stands.
 use Rattle.std.specs.Prelude.{ℕ, ◌+◌, ◌-◌, ◌/◌, ◌≤◌, ◌≡◌, List, ◌∷◌, length, get_or, take, drop, set}
 use Rattle.numbers.specs.declared.Number.{Number}
-use Rattle.writing.specs.Numeral.{numeral}
+use Rattle.octal.specs.Numeral.{numeral}
 use Rattle.writing.specs.Put.{Put}
 use Rattle.writing.specs.Steps.{comma}
 use Rattle.totext.specs.declared.put.Walk.{Walk}
@@ -17,6 +17,10 @@ parted w = walk w.from (w.to + length (comma w.left)) w.depth w.left
 pub record Parts (w r : Walk) (old new : List ℕ) (end : ℕ) : Type 0 where
   pub is : r ≡ parted w
   pub put : Put old new w.to end (comma w.left)
+
+-- the end of a list
+abbrev pub behind_list : List ℕ → Walk → Walk
+behind_list kept w = walk w.from w.to (w.depth - 1) (get_or kept (w.depth - 1) 0)
 
 -- where the writing stands behind ")", behind the atom of a number and behind "(", before "," is put
 abbrev pub behind_shut : List ℕ → Walk → Walk

@@ -2,58 +2,19 @@
 // are found in one pass, and each open level has the elements still to come counted, as when the text is put.
 ghost use Rattle.std.specs.Prelude.{◌≡◌, ◌≢◌, ◌≤◌, ◌<◌, length};
 ghost use Rattle.groups.specs.Groups.{numbers_end};
-ghost use Rattle.text.specs.Limits.{levels, text_most};
-ghost use Rattle.totext.specs.Checking.{stopped, checked, behind_list, Checks, Checking, Passes};
+ghost use Rattle.text.specs.Limits.{text_most};
+ghost use Rattle.totext.specs.Checking.{Checks, Checking, Passes};
 ghost use Rattle.totext.specs.Sizing.{chars, chars_most};
 
-use crate::put::Kept;
-use answers::Answer;
+use crate::put::{Kept, Walk};
+use answers::Refusal;
 use scan::limits::Level;
-use writing::atoms;
 
-// Where the next number begins, the characters of those before it, the levels that are open and the elements still to
-// come in the innermost list; or a fault.
-#[derive(Clone, Copy)]
-pub struct Place {
-    pub at: usize,
-    pub size: usize,
-    pub depth: usize,
-    pub left: u32,
-    pub fault: u32,
-}
-
-// What the check says: DONE, the bytes taken and the characters of the text; or a fault.
+// What the check tells of a list: the bytes taken and the characters of its text.
 #[derive(Clone, Copy)]
 pub struct Checked {
-    pub answer: u32,
     pub taken: u32,
     pub size: usize,
-}
-
-impl Place {
-    fn stopped(fault: u32) -> Place
-        ensures { result ≡ stopped fault }
-    {
-        Place {
-            at: 0,
-            size: 0,
-            depth: 0,
-            left: 0,
-            fault,
-        }
-    }
-}
-
-impl Checked {
-    fn refused(answer: u32) -> Checked
-        ensures { result ≡ checked answer 0 0 }
-    {
-        Checked {
-            answer,
-            taken: 0,
-            size: 0,
-        }
-    }
 }
 
 // The characters that a number brings to the text. Many atoms have one digit.
@@ -65,7 +26,7 @@ fn chars(v: u64) -> usize
         if v < 16 {
             return 2;
         }
-        return atoms::count((v / 2) as u32) + 1;
+        return octal::count((v / 2) as u32) + 1;
     }
     if v == 1 {
         return 3;
@@ -73,95 +34,62 @@ fn chars(v: u64) -> usize
     2
 }
 
-// The end of a list.
-fn shut(kept: &Kept, p: Place) -> Place
-    requires { (1 ≤ p.depth) × (p.depth ≤ levels) }
-    ensures { result ≡ behind_list kept.now p }
-{
-    let depth = p.depth - 1;
-    let left = kept[depth];
-    Place {
-        at: p.at,
-        size: p.size,
-        depth,
-        left,
-        fault: p.fault,
-    }
-}
-
-// The number of an element.
-fn pass(groups: &[u8], kept: &mut Kept, p: Place) -> Place
+// The number of an element, as if its characters were put.
+fn pass(groups: &[u8], kept: &mut Kept, w: Walk) -> Result<Walk, Refusal>
     requires groups_len_bound { length groups.now ≤ text_most }
-    requires checking { Checking groups.now kept.old p }
-    requires le_depth { (1 ≤ p.depth) × (p.left ≢ 0) }
-    ensures { Passes groups.now p kept.new result }
+    requires checking { Checking groups.now kept.old w }
+    requires le_depth { (1 ≤ w.depth) × (w.left ≢ 0) }
+    ensures { Passes groups.now w kept.new result }
 {
-    let depth = p.depth;
-    let left = p.left - 1;
-    let n = numbers::number_at(groups, p.at);
-    let at = n.end;
-    if at == 0 {
-        return Place::stopped(Answer::GROUPS);
-    }
-    let size = p.size + chars(n.value);
-    let fault = Answer::DONE;
+    let n = numbers::number_at(groups, w.from).ok_or(Refusal::Groups)?;
+    let from = n.end;
+    let to = w.to + chars(n.value);
+    let depth = w.depth;
+    let left = w.left - 1;
     if n.value % 2 == 0 {
-        return Place {
-            at,
-            size,
+        return Ok(Walk {
+            from,
+            to,
             depth,
             left,
-            fault,
-        };
+        });
     }
     if depth >= Level::MOST as usize {
-        return Place::stopped(Answer::DEEP);
+        return Err(Refusal::Deep);
     }
     kept[depth] = left;
-    let depth = depth + 1;
-    let left = (n.value / 2) as u32;
-    Place {
-        at,
-        size,
-        depth,
-        left,
-        fault,
-    }
+    Ok(Walk {
+        from,
+        to,
+        depth: depth + 1,
+        left: (n.value / 2) as u32,
+    })
 }
 
 // The outermost list is no atom, and its ")" has nothing behind it.
-pub fn check(groups: &[u8]) -> Checked
+pub fn check(groups: &[u8]) -> Result<Checked, Refusal>
     requires { length groups.now ≤ text_most }
     ensures { Checks groups.now result }
 {
-    let n = numbers::number_at(groups, 0);
-    if n.end == 0 {
-        return Checked::refused(Answer::GROUPS);
-    }
+    let n = numbers::number_at(groups, 0).ok_or(Refusal::Groups)?;
     if n.value % 2 == 0 {
-        return Checked::refused(Answer::GROUPS);
+        return Err(Refusal::Groups);
     }
     let mut kept = [0; Level::MOST as usize];
-    let size = chars(n.value);
-    let mut p = Place {
-        at: n.end,
-        size,
+    let mut w = Walk {
+        from: n.end,
+        to: chars(n.value),
         depth: 1,
         left: (n.value / 2) as u32,
-        fault: Answer::DONE,
     };
-    while p.depth > 0 {
-        while p.left > 0 {
-            p = pass(groups, &mut kept, p);
-            if p.fault != Answer::DONE {
-                return Checked::refused(p.fault);
-            }
+    while w.depth > 0 {
+        while w.left > 0 {
+            w = pass(groups, &mut kept, w)?;
         }
-        p = shut(&kept, p);
+        w = w.shut(&kept);
     }
-    Checked {
-        answer: Answer::DONE,
-        taken: p.at as u32,
-        size: p.size - 1,
-    }
+    Ok(Checked {
+        taken: w.from as u32,
+        size: w.to - 1,
+    })
 }

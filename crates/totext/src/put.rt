@@ -8,13 +8,13 @@ ghost use Rattle.text.specs.ListText.{text_of};
 ghost use Rattle.writing.specs.Steps.{comma};
 ghost use Rattle.totext.specs.Putting.{Ran};
 ghost use Rattle.totext.specs.Standing.{Standing, Held};
-ghost use Rattle.totext.specs.Turns.{parted, behind_shut, Parts, PutShut, PutTurn};
+ghost use Rattle.totext.specs.Turns.{parted, behind_list, behind_shut, Parts, PutShut, PutTurn};
 
-use scan::limits::Level;
+use scan::limits::{Level, PerLevel};
 use writing::atoms;
 
 // Where the next number begins and the next character goes, the levels that are open, and the elements still to come in
-// the innermost list.
+// the innermost list. The check goes the same way, and counts the characters only.
 #[derive(Clone, Copy)]
 pub struct Walk {
     pub from: usize,
@@ -24,7 +24,22 @@ pub struct Walk {
 }
 
 // The elements still to come in the list around each level.
-pub type Kept = [u32; Level::MOST as usize];
+pub type Kept = PerLevel<u32>;
+
+impl Walk {
+    // Out of a list that ends, into the one around it.
+    pub(crate) fn shut(self, kept: &Kept) -> Walk
+        requires { (1 ≤ self.depth) × (self.depth ≤ levels) }
+        ensures { result ≡ behind_list kept.now self }
+    {
+        let depth = self.depth - 1;
+        Walk {
+            depth,
+            left: kept[depth],
+            ..self
+        }
+    }
+}
 
 // "," before a further element.
 fn part(out: &mut [u8], end: usize, w: Walk) -> Walk
@@ -36,12 +51,7 @@ fn part(out: &mut [u8], end: usize, w: Walk) -> Walk
     }
     let to = w.to;
     out[to] = b',';
-    Walk {
-        from: w.from,
-        to: to + 1,
-        depth: w.depth,
-        left: w.left,
-    }
+    Walk { to: to + 1, ..w }
 }
 
 // ")"
@@ -52,13 +62,9 @@ fn put_shut(kept: &Kept, out: &mut [u8], end: usize, w: Walk) -> Walk
 {
     let to = w.to;
     out[to] = b')';
-    let depth = w.depth - 1;
-    let left = kept[depth];
     let shut = Walk {
-        from: w.from,
         to: to + 1,
-        depth,
-        left,
+        ..w.shut(kept)
     };
     part(out, end, shut)
 }
@@ -75,12 +81,12 @@ fn put_element(groups: &[u8], kept: &mut Kept, out: &mut [u8], end: usize, w: Wa
     let to = w.to;
     let depth = w.depth;
     let left = w.left - 1;
-    let n = numbers::number_at(groups, w.from);
+    let n = numbers::number_there(groups, w.from);
     let from = n.end;
     let half = (n.value / 2) as u32;
     if n.value % 2 == 0 {
         atoms::put_atom(out, to, end, half);
-        let to = to + atoms::count(half);
+        let to = to + octal::count(half);
         return part(
             out,
             end,
@@ -105,7 +111,7 @@ fn put_element(groups: &[u8], kept: &mut Kept, out: &mut [u8], end: usize, w: Wa
 }
 
 // Atoms of one digit, up to the last element, each with the "," behind it. Most elements are such, and a loop of their
-// own puts them quickest.
+// own puts them quickest. No `for`: bytes, characters and elements go on together, and the loop ends where it must.
 fn put_digits(groups: &[u8], kept: &Kept, out: &mut [u8], end: usize, w: Walk) -> Walk
     requires standing { Standing groups.now (text_of (list_in groups.now)) kept.now w }
     requires le_depth { 1 ≤ w.depth }
@@ -117,10 +123,7 @@ fn put_digits(groups: &[u8], kept: &Kept, out: &mut [u8], end: usize, w: Walk) -
     while r.left > 1 {
         let from = r.from;
         let b = groups[from];
-        if b >= 16 {
-            return r;
-        }
-        if b % 2 != 0 {
+        if b >= 16 || b % 2 != 0 {
             return r;
         }
         let to = r.to;
@@ -140,7 +143,7 @@ pub fn put(groups: &[u8], out: &mut [u8], end: usize)
     ensures { out.new ≡ over (text_of (list_in groups.now)) out.old }
 {
     out[0] = b'(';
-    let n = numbers::number_at(groups, 0);
+    let n = numbers::number_there(groups, 0);
     let mut kept = [0; Level::MOST as usize];
     let mut w = Walk {
         from: n.end,

@@ -19,20 +19,25 @@ fn one(rt: HostRuntime, name: &str) {
 }
 
 fn main(rt: HostRuntime) {
-    one(rt, "before_new");
-    one(rt, "malformed");
-    one(rt, "numbers");
-    one(rt, "long_lines");
-    one(rt, "refusals");
-    one(rt, "easy_to_get_wrong");
-    one(rt, "full_and_empty");
-    one(rt, "new_again");
-    one(rt, "read");
-    one(rt, "written");
-    one(rt, "deep");
-    one(rt, "too_long");
-    one(rt, "empty");
-    one(rt, "no_last_line_feed");
-    one(rt, "ends_in_a_long_line");
-    one(rt, "line_feeds_only");
+    let names = [
+        "before_new",
+        "malformed",
+        "numbers",
+        "long_lines",
+        "refusals",
+        "easy_to_get_wrong",
+        "full_and_empty",
+        "new_again",
+        "read",
+        "written",
+        "deep",
+        "too_long",
+        "empty",
+        "no_last_line_feed",
+        "ends_in_a_long_line",
+        "line_feeds_only",
+    ];
+    for name in names {
+        one(rt, name);
+    }
 }

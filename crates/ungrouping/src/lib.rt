@@ -4,42 +4,40 @@
 
 ghost use Rattle.std.specs.Prelude.{◌≡◌};
 ghost use Rattle.answers.specs.Answers.{DONE};
+ghost use Rattle.answers.specs.Refusals.{answer_no};
 ghost use Rattle.lists.specs.Lst.{extent};
 ghost use Rattle.groups.specs.Reading.{size_fault, scanned, list_in};
-ghost use Rattle.scan.specs.Outcomes.{saying};
+ghost use Rattle.scan.specs.Outcomes.{Says};
 
-use crate::readers::Place;
-use answers::Answer;
+use answers::Refusal;
 use records::Record;
 use scan::Scanned;
 
 pub mod atoms;
-pub mod bounds;
 pub mod ends;
 pub mod readers;
 
 // More than 65,520 bytes, or none.
-pub fn size_fault(bytes: &[u8]) -> u32
-    ensures { result ≡ size_fault bytes.now }
+pub fn size_fault(bytes: &[u8]) -> Result<(), Refusal>
+    ensures { answer_no result ≡ size_fault bytes.now }
 {
     if bytes.len() > Record::TEXT {
-        return Answer::TEXT_SIZE;
+        return Err(Refusal::TextSize);
     }
-    if bytes.len() == 0 {
-        return Answer::END;
+    if bytes.is_empty() {
+        return Err(Refusal::End);
     }
-    Answer::DONE
+    Ok(())
 }
 
 // Bytes of a right size: the earliest fault, or the bytes taken and the extent.
-pub fn scan(bytes: &[u8]) -> Scanned
+pub fn scan(bytes: &[u8]) -> Result<Scanned, Refusal>
     requires { size_fault bytes.now ≡ DONE }
-    ensures { result ≡ saying (scanned bytes.now) (extent (list_in bytes.now)) }
+    ensures { Says (scanned bytes.now) (extent (list_in bytes.now)) result }
 {
-    let read = readers::read(bytes);
-    if read >= Place::END {
-        return Scanned::refused((read - Place::END) as u32);
-    }
-    let numbers = ends::numbers_in(bytes, read);
-    Scanned::done(read as u32, numbers - 1)
+    let end = readers::read(bytes)?;
+    Ok(Scanned {
+        taken: end as u32,
+        extent: ends::numbers_in(&bytes[..end]) - 1,
+    })
 }

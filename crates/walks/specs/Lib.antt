@@ -1,2 +1,4 @@
 pub mod Levels
+pub mod Steps
+pub mod Meets
 pub mod Laws

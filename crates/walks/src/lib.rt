@@ -1,30 +1,30 @@
-// What a walk through a list and its lists needs, whatever form it puts the list into: the cells with which the open
-// levels go on, and the test for level 201.
+// What a walk through a list and its lists needs, whatever form it puts the list into: where it stands, what it meets
+// there and its steps, the cells with which the open levels go on, and the test for level 201.
 
 #![tactic(auto)]
 
 ghost use Rattle.std.specs.Prelude.{◌≡◌, ◌&&◌, ◌≢◌, leb};
 ghost use Rattle.text.specs.Limits.{levels};
-ghost use Rattle.table.specs.View.{view, Table, IsCell};
+ghost use Rattle.cells.specs.Views.{pool_of};
+ghost use Rattle.table.specs.View.{IsCell};
 ghost use Rattle.walks.specs.Levels.{opens_at};
 
-use scan::limits::Level;
-use table::Shape;
+use cells::seen::Seen;
+use scan::limits::{Level, PerLevel};
+
+pub mod met;
+pub mod walk;
+
+pub use met::Met;
+pub use walk::Walk;
 
 // The cell with which each open level goes on.
-pub type Kept = [usize; Level::MOST as usize];
+pub type Kept = PerLevel<usize>;
 
 // Whether a walk at x, with so many levels open, opens level 201.
-pub fn too_deep(s: Shape, t: &[u32], x: usize, depth: usize) -> bool
-    requires table { Table s t.now }
-    requires cell { x ≢ 0 → IsCell s x }
-    ensures { result ≡ (leb levels depth && opens_at (view s t.now).cells x) }
+pub fn too_deep(t: Seen, x: usize, depth: usize) -> bool
+    requires { x ≢ 0 → IsCell t.shape x }
+    ensures { result ≡ (leb levels depth && opens_at (pool_of t.entry).cells x) }
 {
-    if depth < Level::MOST as usize {
-        return false;
-    }
-    if x == 0 {
-        return false;
-    }
-    table::kind_of(s, t, x) != 0
+    depth >= Level::MOST as usize && x != 0 && t.kind_of(x) != 0
 }

@@ -1,4 +1,3 @@
-pub mod NumeralLaws
 pub mod StepLaws
 pub mod PutLaws
 pub mod TurnLaws

@@ -1,4 +1,3 @@
-pub mod Numeral
 pub mod Steps
 pub mod Put
 pub mod Measures

@@ -1,8 +1,8 @@
 -- Bytes put into a text that will end at a known place: what stands before them stays, and what stands behind that end.
 use Rattle.std.specs.Prelude.{ℕ, ◌+◌, ◌≤◌, ◌<◌, ◌≡◌, ◌≢◌, List, ◌∷◌, ◌++◌, length, take, drop}
 use Rattle.pool.specs.Pool.{Cell, kind_of, elem_of}
-use Rattle.writing.specs.declared.walk.Walk.{Walk}
-use Rattle.writing.specs.Numeral.{numeral}
+use Rattle.walks.specs.declared.walk.Walk.{Walk}
+use Rattle.octal.specs.Numeral.{numeral}
 use Rattle.writing.specs.Steps.{comma, shut_at, pass_at, Turn}
 
 pub record Put (old new : List ℕ) (at end : ℕ) (bs : List ℕ) : Type 0 where

@@ -1,7 +1,7 @@
 -- Where the writing of a text stands: as many of its characters as the walk has passed are in their places.
 use Rattle.std.specs.Prelude.{ℕ, ◌≡◌, List, length, take, drop}
 use Rattle.pool.specs.Pool.{Cell}
-use Rattle.writing.specs.declared.walk.Walk.{Walk}
+use Rattle.walks.specs.declared.walk.Walk.{Walk}
 use Rattle.writing.specs.Walking.{Walking}
 
 pub record Putting (cs : List Cell) (t old : List ℕ) (end : ℕ) (out after : List ℕ) (w : Walk) : Type 0 where

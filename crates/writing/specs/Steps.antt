@@ -1,20 +1,18 @@
 -- One turn of the walk through a list, as the code makes it: ")", an atom or "(" with what follows it, and where the
 -- walk then stands.
-use Rattle.std.specs.Prelude.{ℕ, zero, suc, ◌+◌, ◌-◌, ◌≤◌, ◌<◌, ◌≡◌, ◌≢◌, List, [], ◌∷◌, ◌++◌, length, get_or, set}
+use Rattle.std.specs.Prelude.{ℕ, zero, suc, ◌+◌, ◌-◌, ◌≤◌, ◌<◌, ◌≡◌, ◌≢◌, List, [], ◌∷◌, ◌++◌, length, get_or}
 use Rattle.pool.specs.Pool.{Cell, kind_of, elem_of, next_of}
 use Rattle.table.specs.declared.Shape.{Shape}
 use Rattle.table.specs.View.{IsCell}
 use Rattle.text.specs.Limits.{levels, text_most}
-use Rattle.writing.specs.declared.walk.Walk.{Walk}
-use Rattle.writing.specs.Numeral.{numeral}
+use Rattle.walks.specs.declared.walk.Walk.{Walk}
+use Rattle.walks.specs.Steps.{walk, kept_at}
+use Rattle.octal.specs.Numeral.{numeral}
 
 -- before a further element, which is the cell x if there is one
 abbrev pub comma : ℕ → List ℕ
 comma zero = []
 comma (suc i) = 44 ∷ []
-
-abbrev pub walk : ℕ → ℕ → ℕ → Walk
-walk x d k = record { at = x; depth = d; size = k }
 
 -- behind the outermost "("
 abbrev pub started : ℕ → Walk
@@ -30,14 +28,6 @@ pass_at cs w =
 
 abbrev pub open_at : List Cell → Walk → Walk
 open_at cs w = walk (elem_of cs w.at) (w.depth + 1) (w.size + 1)
-
--- the cell with which the level goes on is kept
-abbrev pub kept_at : List Cell → List ℕ → Walk → List ℕ
-kept_at cs after w = set after w.depth (next_of cs w.at)
-
--- "(" of an element
-abbrev pub Opened : List Cell → List ℕ → Walk → List ℕ → Walk → Type 0
-Opened cs after w next r = (r ≡ open_at cs w) × (next ≡ kept_at cs after w)
 
 -- a turn from w to r, by its characters
 pub data Turn (cs : List Cell) (after : List ℕ) (w : Walk) (next : List ℕ) (r : Walk) : List ℕ → Type 0 where

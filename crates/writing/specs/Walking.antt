@@ -9,7 +9,7 @@ use Rattle.text.specs.ListText.{items}
 use Rattle.text.specs.Laws.OpenLists.{body}
 use Rattle.text.specs.Writing.{judged}
 use Rattle.walks.specs.Levels.{Levels}
-use Rattle.writing.specs.declared.walk.Walk.{Walk}
+use Rattle.walks.specs.declared.walk.Walk.{Walk}
 
 abbrev pub above : List Lst → List ℕ
 above [] = []

@@ -2,17 +2,17 @@
 ghost use Rattle.std.specs.Prelude.{◌≡◌, ◌-◌, ◌≤◌, length};
 ghost use Rattle.calls.specs.Entry.{over};
 ghost use Rattle.text.specs.Limits.{levels, text_most};
-ghost use Rattle.table.specs.View.{view, Table, IsCell};
+ghost use Rattle.cells.specs.Views.{pool_of};
+ghost use Rattle.table.specs.View.{IsCell};
 ghost use Rattle.writing.specs.Put.{Put, PutShut, PutPass, PutTurn, Roomy};
 ghost use Rattle.writing.specs.Steps.{comma, shut_at, pass_at, MayTurn};
 ghost use Rattle.pool.specs.Operations.{Stands};
 ghost use Rattle.writing.specs.Measures.{Fitting, text_at};
 
-use crate::walk::Walk;
 use crate::{atoms, walk};
+use cells::seen::Seen;
 use scan::limits::Level;
-use table::Shape;
-use walks::Kept;
+use walks::{Kept, Met, Walk};
 
 // "," before a further element: the last character so far.
 fn part(out: &mut [u8], end: usize, w: Walk)
@@ -20,8 +20,7 @@ fn part(out: &mut [u8], end: usize, w: Walk)
     ensures { Put out.old out.new (w.size - length (comma w.at)) end (comma w.at) }
 {
     if w.at != 0 {
-        let at = w.size - 1;
-        out[at] = b',';
+        out[w.size - 1] = b',';
     }
 }
 
@@ -31,60 +30,54 @@ fn put_shut(after: &Kept, out: &mut [u8], end: usize, w: Walk) -> Walk
     requires w_bound { ((shut_at after.now w).size ≤ end) × (end ≤ length out.old) }
     ensures { PutShut after.now w out.old out.new end result }
 {
-    let at = w.size;
-    out[at] = b')';
+    out[w.size] = b')';
     let r = walk::shut(after, w);
     part(out, end, r);
     r
 }
 
 // An atom.
-fn put_pass(s: Shape, t: &[u32], out: &mut [u8], end: usize, w: Walk) -> Walk
-    requires table { Table s t.now }
-    requires cell { IsCell s w.at }
-    requires size_le_text_most { (w.size ≤ text_most) × ((pass_at (view s t.now).cells w).size ≤ end) × (end ≤ length out.old) }
-    ensures { PutPass (view s t.now).cells w out.old out.new end result }
+fn put_pass(t: Seen, out: &mut [u8], end: usize, w: Walk) -> Walk
+    requires cell { IsCell t.shape w.at }
+    requires size_le_text_most { (w.size ≤ text_most) × ((pass_at (pool_of t).cells w).size ≤ end) × (end ≤ length out.old) }
+    ensures { PutPass (pool_of t.entry).cells w out.old out.new end result }
 {
-    let v = table::elem_of(s, t, w.at);
-    let r = walk::pass(s, t, w);
+    let v = t.elem_of(w.at);
+    let r = walk::pass(t, w);
     atoms::put_atom(out, w.size, end, v);
     part(out, end, r);
     r
 }
 
 // As much of the text as a turn of the walk passes.
-fn put_step(s: Shape, t: &[u32], after: &mut Kept, out: &mut [u8], end: usize, w: Walk) -> Walk
-    requires table { Table s t.now }
-    requires may_turn { MayTurn s (view s t.now).cells w }
-    requires roomy { Roomy (view s t.now).cells after.old w end }
+fn put_step(t: Seen, after: &mut Kept, out: &mut [u8], end: usize, w: Walk) -> Walk
+    requires may_turn { MayTurn t.shape (pool_of t).cells w }
+    requires roomy { Roomy (pool_of t).cells after.old w end }
     requires end_in_bounds { end ≤ length out.old }
-    ensures { PutTurn (view s t.now).cells after.old w after.new result
+    ensures { PutTurn (pool_of t.entry).cells after.old w after.new result
         out.old out.new end }
 {
-    let x = w.at;
-    if x == 0 {
-        return put_shut(after, out, end, w);
+    match Met::at(t, w.at) {
+        Met::End => put_shut(after, out, end, w),
+        Met::Atom(_) => put_pass(t, out, end, w),
+        Met::List(_) => {
+            out[w.size] = b'(';
+            w.open(t, after, w.size + 1)
+        }
     }
-    if table::kind_of(s, t, x) == 0 {
-        return put_pass(s, t, out, end, w);
-    }
-    let at = w.size;
-    out[at] = b'(';
-    walk::open(s, t, after, w)
 }
 
 // The text of the list at x, which ends at `end`.
-pub fn put(s: Shape, t: &[u32], x: usize, out: &mut [u8], end: usize)
-    requires table { Table s t.now }
-    requires stands { Stands (view s t.now).cells x }
-    requires fitting { Fitting (view s t.now).cells x end }
+pub fn put(t: Seen, x: usize, out: &mut [u8], end: usize)
+    requires stands { Stands (pool_of t).cells x }
+    requires fitting { Fitting (pool_of t).cells x end }
     requires end_in_bounds { end ≤ length out.old }
-    ensures { out.new ≡ over (text_at (view s t.now).cells x) out.old }
+    ensures { out.new ≡ over (text_at (pool_of t.entry).cells x) out.old }
 {
     out[0] = b'(';
     let mut after = [0; Level::MOST as usize];
-    let mut w = Walk::started(x);
+    let mut w = Walk::started(x, 1);
     while w.depth > 0 {
-        w = put_step(s, t, &mut after, out, end, w);
+        w = put_step(t, &mut after, out, end, w);
     }
 }

@@ -1,7 +1,9 @@
 -- Words that are no table have no free cell, and the cells of a table are those of its view.
-use Rattle.std.specs.Prelude.{◌≡◌, List, ℕ, length}
+use Rattle.std.specs.Prelude.{◌≡◌, refl, Bool, true, false, cond, List, ℕ, eqb, length}
 use Rattle.std.proofs.Common.{sym, ap, ◌∙◌, arith}
+use mir.Val.{bool_byte}
 use Rattle.pool.specs.Pool.{frees}
+use Rattle.pool.specs.Tally.{same}
 use Rattle.pool.specs.Laws.Room.{frees-lives}
 use Rattle.table.specs.Sizes.{shape_of}
 use Rattle.table.specs.View.{view}
@@ -20,3 +22,12 @@ none_free ts s e z =
 pub some_free : (ts : List ℕ) (s : Shape) → s ≡ shape_of Four ts → frees (view s ts).cells ≡ free_cells ts
 unfolding free_cells
 some_free ts s e = ap (λ (x : Shape). frees (view x ts).cells) e
+
+-- a test's number is what a free cell counts
+pub one_if_free : (r n : ℕ) → n ≡ bool_byte (eqb r 0) → n ≡ same r 0
+unfolding same
+one_if_free r n e = e ∙ go (eqb r 0)
+  where
+    go : (b : Bool) → bool_byte b ≡ cond b 1 0
+    go true = refl
+    go false = refl

@@ -1,6 +1,6 @@
 -- What READ leaves: the work space's words do not matter, and what the call says is what READ does.
 use Rattle.std.specs.Prelude.{◌≡◌, refl, Bool, true, false, cond, not, List, ◌++◌, ℕ, eqb, ltb, length, take, replicate}
-use Rattle.std.proofs.Common.{sym, ap, ◌∙◌, arith, length-append, take_at}
+use Rattle.std.proofs.Common.{sym, ap, ◌∙◌, take_at}
 use Rattle.std.proofs.lemmas.List.{length-replicate}
 use Rattle.answers.specs.Answers.{DONE, UNSOUND, HOLDER, OCCUPIED, NO_ROOM}
 use Rattle.answers.specs.declared.Outcome.{Outcome}
@@ -14,8 +14,8 @@ use Rattle.calls.specs.Entry.{work_words, entry_fault, no_holder, shown, unsound
 use Rattle.groups.specs.declared.Stored.TheVariants.{Text}
 use Rattle.calls.specs.Read.{Read, not_read, read_in, reading_in}
 use Rattle.lines.specs.Printed.{filled}
-use Rattle.answering.specs.Session.{nothing_kind, work_most, reading_of, took}
-use Rattle.answering.specs.Kept.{Says}
+use Rattle.answering.specs.Session.{work_most, reading_of, took}
+use Rattle.answering.specs.Kept.{plain, Says}
 use Rattle.table.specs.declared.Form.TheVariants.{Four}
 
 record Same (g h : Read) : Type 0 where
@@ -57,19 +57,16 @@ any_words ts ws us xs h l =
     go true false true false false true true = record { answer = refl; table = refl }
     go true false true false false true false = record { answer = refl; table = refl }
 
--- a part of k words, and one of m bytes, that are lent start at 0
-pub reads : (ts ws vs front rest xs text : List ℕ) (h used k m : ℕ) (o : Outcome) → k ≡ used → length front ≡ used → length ws ≡ work_most → take m text ≡ filled xs
-    → Reads o front vs (read_in Text (take k ts) ws h (take m text))
-    → Says (took (reading_of (take used ts) h xs)) (record { used = used; answer = o.answer; kind = nothing_kind; value = 0 }) (front ++ rest)
-reads ts ws vs front rest xs text h used k m o e l w t s = rw (sym e) (
-    let us : List ℕ = replicate work_most 0 in
-    let q = any_words (take k ts) ws us (filled xs) h (w ∙ sym (length-replicate {A = ℕ} work_most 0)) in
-    let r : read_in Text (take k ts) ws h (take m text) ≡ read_in Text (take k ts) ws h (filled xs) = ap (read_in Text (take k ts) ws h) t in
+-- READ of a text on the words in use
+pub reads : (us ws vs front rest xs page : List ℕ) (h k : ℕ) (o : Outcome) → length front ≡ k → length ws ≡ work_most → page ≡ filled xs
+    → Reads o front vs (read_in Text us ws h page)
+    → Says (took (reading_of us h xs)) (plain o.answer) (take k (front ++ rest))
+reads us ws vs front rest xs page h k o l w t s =
+    let q = any_words us ws (replicate work_most 0) (filled xs) h (w ∙ sym (length-replicate {A = ℕ} work_most 0)) in
+    let r : read_in Text us ws h page ≡ read_in Text us ws h (filled xs) = ap (read_in Text us ws h) t in
     record {
-      words = take_at front rest k (l ∙ sym e) ∙ s.table ∙ ap (λ (x : Read). x.table) r ∙ q.table;
-      fits = omega (arith, length-append front rest);
+      words = take_at front rest k l ∙ s.table ∙ ap (λ (x : Read). x.table) r ∙ q.table;
       answer = ap (λ (x : Outcome). x.answer) s.outcome ∙ ap (λ (x : Read). x.answer) r ∙ q.answer;
       kind = refl;
       value = refl;
     }
-    )

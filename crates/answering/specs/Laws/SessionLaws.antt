@@ -13,16 +13,14 @@ use Rattle.calls.specs.SetUp.{Given, set_up}
 use Rattle.calls.specs.Promised.{SetsUp}
 use Rattle.calls.specs.Entry.{work_words, entry_fault, shown, unsound, used as clearedWork}
 use Rattle.calls.specs.Run.{Ran, ran, ran_in, ran_to, not_run, script_fault, operations}
-use Rattle.lines.specs.Commands.{Command, command}
-use Rattle.lines.specs.Splitting.{ready}
+use Rattle.lines.specs.Commands.{Command, malformed, command}
 use Rattle.lines.specs.Meaning.{Puts}
 use Rattle.lines.specs.Numbers.{blank}
-use Rattle.lines.specs.Printed.{reply, column, line_feed}
+use Rattle.lines.specs.Printed.{reply, column, question, line_feed}
 use Rattle.lines.specs.Laws.PrintedLaws.{column_short}
-use Rattle.answering.specs.declared.answer.Answered.{Answered}
 use Rattle.answering.specs.declared.engine.Said.{Said}
-use Rattle.answering.specs.Session.{Told, nothing_kind, free_cells, opened, opening, new_words, work_most, performing, operated, replied, asked, does, answered}
-use Rattle.answering.specs.Kept.{reply_most, Prints, Says, Speaks}
+use Rattle.answering.specs.Session.{Told, nothing_kind, free_cells, opened, opening, new_words, work_most, performing, operated, replied, does}
+use Rattle.answering.specs.Kept.{reply_most, plain, Prints, Says, Speaks}
 use Rattle.table.specs.declared.Form.TheVariants.{Four}
 
 -- bytes that were stored from the start on are printed
@@ -51,27 +49,25 @@ reply_short a k v f =
 lent : (n : ℕ) → length {A = ℕ} (replicate (word_count (four n)) 0) ≡ word_count (four n)
 lent n = length-replicate (word_count (four n)) 0
 
--- NEW sets up the front of the lent words
+-- NEW sets up the front of the words that the engine keeps, which is then in use
 pub opens : (old ts front rest : List ℕ) (n w : ℕ) {r : ℕ} → w ≡ word_count (four n) → sizes_fit (four n) w ≡ true → length ts ≡ w → length front ≡ w
     → SetsUp r front (set_up ts n)
-    → Says (opening old (opened n)) (record { used = w; answer = r; kind = nothing_kind; value = 0 }) (front ++ rest)
+    → Says (opening old (opened n)) (plain r) (take w (front ++ rest))
 opens old ts front rest n w z e l m s =
     let p = accepted Four ts n _ (ap (sizes_fit (four n)) l ∙ e) in
     let q = accepted Four (replicate (word_count (four n)) 0) n _ (ap (sizes_fit (four n)) (lent n ∙ sym z) ∙ e) in
     record {
       words = take_at front rest w m ∙ s.table ∙ ap (λ (g : Given). g.table) p ∙ sym (ap (new_words old) q);
-      fits = omega (arith, length-append front rest);
       answer = s.answer ∙ ap (λ (g : Given). g.answer) (p ∙ sym q);
       kind = refl;
       value = refl;
     }
 
 -- or keeps the old ones
-pub keeps_old : (ts : List ℕ) (used n w : ℕ) → w ≡ word_count (four n) → sizes_fit (four n) w ≡ false → used ≤ length ts
-    → Says (opening (take used ts) (opened n)) (record { used = used; answer = TABLE_SIZE; kind = nothing_kind; value = 0 }) ts
-keeps_old ts used n w z e l =
+pub keeps_old : (us : List ℕ) (n w : ℕ) → w ≡ word_count (four n) → sizes_fit (four n) w ≡ false → Says (opening us (opened n)) (plain TABLE_SIZE) us
+keeps_old us n w z e =
     let q = refused Four (replicate (word_count (four n)) 0) n _ (ap (sizes_fit (four n)) (lent n ∙ sym z) ∙ e) in
-    record { words = sym (ap (new_words (take used ts)) q); fits = l; answer = sym (ap (λ (g : Given). g.answer) q); kind = refl; value = refl }
+    record { words = sym (ap (new_words us) q); answer = sym (ap (λ (g : Given). g.answer) q); kind = refl; value = refl }
 
 -- the work space's words do not matter to what a run gives
 pub record Alike (g h : Ran) : Type 0 where
@@ -102,41 +98,40 @@ any_work ts ws us ss rs l = rw l (go (eqb (entry_fault work_words Four ts (lengt
     go true false c = record { answer = refl; table = refl; results = refl }
     go false b c = record { answer = refl; table = refl; results = refl }
 
--- an operation leaves the front of the lent words; a part of k words that is lent starts at 0
-pub operates : (ts ws front rest rs : List ℕ) (used k c a b v answer : ℕ) → k ≡ used → length front ≡ used → length ws ≡ work_most
-    → Alike (record { answer = answer; count = 0; table = front; work = ws; results = rs }) (ran (take k ts) ws (c ∷ a ∷ b ∷ v ∷ []) (nothing_kind ∷ 0 ∷ []))
-    → Says (operated (performing (take used ts) c a b v)) (record { used = used; answer = answer; kind = get_or rs 0 0; value = get_or rs 1 0 }) (front ++ rest)
-operates ts ws front rest rs used k c a b v answer e l m g = rw (sym e) (
+-- an operation on the words in use
+pub operates : (us ws front rest rs : List ℕ) (k c a b v answer : ℕ) → length front ≡ k → length ws ≡ work_most
+    → Alike (record { answer = answer; count = 0; table = front; work = ws; results = rs }) (ran us ws (c ∷ a ∷ b ∷ v ∷ []) (nothing_kind ∷ 0 ∷ []))
+    → Says (operated (performing us c a b v)) (record { answer = answer; kind = get_or rs 0 0; value = get_or rs 1 0 }) (take k (front ++ rest))
+operates us ws front rest rs k c a b v answer l m g =
     let n : length ws ≡ length {A = ℕ} (replicate work_most 0) = m ∙ sym (length-replicate {A = ℕ} work_most 0) in
-    let w = any_work (take k ts) ws (replicate work_most 0) (c ∷ a ∷ b ∷ v ∷ []) (nothing_kind ∷ 0 ∷ []) n in
+    let w = any_work us ws (replicate work_most 0) (c ∷ a ∷ b ∷ v ∷ []) (nothing_kind ∷ 0 ∷ []) n in
     record {
-      words = take_at front rest k (l ∙ sym e) ∙ g.table ∙ w.table;
-      fits = omega (arith, length-append front rest);
+      words = take_at front rest k l ∙ g.table ∙ w.table;
       answer = g.answer ∙ w.answer;
       kind = ap (λ (x : List ℕ). get_or x 0 0) (g.results ∙ w.results);
       value = ap (λ (x : List ℕ). get_or x 1 0) (g.results ∙ w.results);
-    })
+    }
 
 -- what a call said, with the free cells told
-pub tells : (us out : List ℕ) (k count : ℕ) (r : Said) → k ≡ r.used → Prints (reply r.answer r.kind r.value (free_cells (take k us))) count out
-    → (t : Told) → Says t r us → Speaks (replied t) (record { used = r.used; count = count }) us out
-tells us out k count r e p t s = record {
+pub tells : (us out : List ℕ) (count : ℕ) (r : Said) → Prints (reply r.answer r.kind r.value (free_cells us)) count out
+    → (t : Told) → Says t r us → Speaks (replied t) us count out
+tells us out count r p t s = record {
   words = s.words;
-  fits = s.fits;
   printed = record {
     bytes = p.bytes
-        ∙ ap (λ (a : ℕ). reply a r.kind r.value (free_cells (take k us))) s.answer
-        ∙ ap (λ (x : ℕ). reply t.answer x r.value (free_cells (take k us))) s.kind
-        ∙ ap (λ (x : ℕ). reply t.answer t.kind x (free_cells (take k us))) s.value
-        ∙ ap (λ (w : List ℕ). reply t.answer t.kind t.value (free_cells w)) (ap (λ (i : ℕ). take i us) e ∙ s.words);
+        ∙ ap (λ (a : ℕ). reply a r.kind r.value (free_cells us)) s.answer
+        ∙ ap (λ (x : ℕ). reply t.answer x r.value (free_cells us)) s.kind
+        ∙ ap (λ (x : ℕ). reply t.answer t.kind x (free_cells us)) s.value
+        ∙ ap (λ (w : List ℕ). reply t.answer t.kind t.value (free_cells w)) s.words;
     fits = p.fits;
   };
 }
 
--- a line that is too long, and a line by what it asks for
-pub speaks_long : (ts bs us out : List ℕ) {over : Bool} (r : Answered) → over ≡ true → Speaks (asked ts) r us out → Speaks (answered ts (ready bs over)) r us out
-speaks_long ts bs us out r e t = rw e t
+-- a line by what it asks for
+pub speaks_order : (us new s out : List ℕ) (n : ℕ) (r : Said) (o : Command) (t : Told) → o ≡ command s → does us o ≡ replied t → Says t r new
+    → Prints (reply r.answer r.kind r.value (free_cells new)) n out → Speaks (does us (command s)) new n out
+speaks_order us new s out n r o t e q k p = rw (sym e, q) (tells new out n r p t k)
 
-pub speaks_command : (ts bs us out : List ℕ) (n k : ℕ) {over : Bool} (o : Command) (r : Answered) → k ≡ n → over ≡ false → o ≡ command (take k bs) → Speaks (does ts o) r us out
-    → Speaks (answered ts (ready (take n bs) over)) r us out
-speaks_command ts bs us out n k o r e f q t = rw (f, sym e, sym q) t
+pub speaks_asked : (us s old out : List ℕ) (n : ℕ) → malformed ≡ command s → Puts question 0 old n out → 2 ≤ length old → Speaks (does us (command s)) us n out
+unfolding does
+speaks_asked us s old out n e p l = rw (sym e) record { words = refl; printed = printed question p l }

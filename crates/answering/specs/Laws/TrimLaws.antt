@@ -1,6 +1,6 @@
--- A text without the blanks at its end, byte by byte from the end. A list's text ends in ")", so that its fill is what goes.
-use Rattle.std.specs.Prelude.{◌≡◌, refl, ◌≢◌, Bool, true, false, List, [], ◌∷◌, ◌++◌, ℕ, zero, suc, ◌-◌, ◌%◌, ◌≤◌, ◌<◌, length, get_or, take, replicate}
-use Rattle.std.proofs.Common.{sym, ap, ◌∙◌, append_assoc, append-nil, arith, add-one, ne_eqb, length-append, take-suc, length-take-le}
+-- A text without the blanks at its end. A list's text ends in ")", so that its fill is what goes.
+use Rattle.std.specs.Prelude.{◌≡◌, refl, ◌≢◌, Bool, true, false, List, [], ◌∷◌, ◌++◌, ℕ, zero, suc, ◌-◌, ◌%◌, ◌≤◌, ◌<◌, cond, eqb, length, get_or, replicate}
+use Rattle.std.proofs.Common.{sym, ap, ◌∙◌, append_assoc, append-nil, arith, add-one, eq-eqb, ne_eqb, length-append}
 use Rattle.lists.specs.Lst.{Lst, nil, atom, list}
 use Rattle.text.specs.Limits.{record_bytes}
 use Rattle.text.specs.ListText.{octal, lead, leads, items, text_of, written}
@@ -39,19 +39,27 @@ trim_written l =
     let h = shut true l in
     trim_blanks ((record_bytes - length (text_of l) % record_bytes) % record_bytes) (text_of l) ∙ ap trimmed h.is ∙ trim_other h.front 41 (λ e. absurd (omega arith)) ∙ sym (ap length h.is ∙ length-append h.front (41 ∷ []) ∙ add-one (length h.front))
 
--- byte by byte from the end
-last_byte : (s : List ℕ) (i : ℕ) → 0 < i → i ≤ length s → take i s ≡ take (i - 1) s ++ (get_or s (i - 1) 0 ∷ [])
-last_byte s i p l = let q : i ≡ suc (i - 1) = omega arith in ap (λ (k : ℕ). take k s) q ∙ take-suc s (i - 1) 0 (omega arith)
-
-pub trim_more : (s : List ℕ) (i : ℕ) → 0 < i → i ≤ length s → get_or s (i - 1) 0 ≡ blank → trimmed (take (i - 1) s) ≡ trimmed (take i s)
-trim_more s i p l e = sym (ap trimmed (last_byte s i p l ∙ ap (λ (c : ℕ). take (i - 1) s ++ (c ∷ [])) e) ∙ trim_blank (take (i - 1) s))
-
-pub trim_end : (s : List ℕ) (i : ℕ) → 0 < i → i ≤ length s → get_or s (i - 1) 0 ≢ blank → i ≡ trimmed (take i s)
-trim_end s i p l n =
-    let q : length (take (i - 1) s) ≡ i - 1 = length-take-le (i - 1) s (omega arith) in
-    let r : i ≡ suc (length (take (i - 1) s)) = omega arith in
-    r ∙ sym (ap trimmed (last_byte s i p l) ∙ trim_other (take (i - 1) s) (get_or s (i - 1) 0) n)
-
-pub trim_none : (s : List ℕ) → 0 ≡ trimmed (take 0 s)
+-- by the place of the last byte that is no blank
+pub trimmed_none : (s : List ℕ) → ((k : ℕ) → k < length s → get_or s k 0 ≡ blank) → 0 ≡ trimmed s
 unfolding trimmed
-trim_none s = refl
+trimmed_none [] h = refl
+trimmed_none (c ∷ s) h = rw (sym (trimmed_none s (λ k l. h (suc k) (omega arith))), eq-eqb c blank (h 0 (omega arith))) refl
+
+pub trimmed_at : (s : List ℕ) (i : ℕ) → i < length s → get_or s i 0 ≢ blank → ((k : ℕ) → i < k → k < length s → get_or s k 0 ≡ blank) → suc i ≡ trimmed s
+unfolding trimmed
+trimmed_at [] i l n h = absurd (omega arith)
+trimmed_at (c ∷ s) zero l n h = rw (sym (trimmed_none s (λ k m. h (suc k) (omega arith) (omega arith))), ne_eqb c blank n) refl
+trimmed_at (c ∷ s) (suc i) l n h = rw (sym (trimmed_at s i (omega arith) n (λ k a b. h (suc k) (omega arith) (omega arith)))) refl
+
+pub trimmed_le : (s : List ℕ) → trimmed s ≤ length s
+unfolding trimmed
+trimmed_le [] = omega arith
+trimmed_le (c ∷ s) = go (trimmed s) (trimmed_le s)
+  where
+    one : (b : Bool) → cond b 0 1 ≤ suc (length s)
+    one true = omega arith
+    one false = omega arith
+
+    go : (k : ℕ) → k ≤ length s → left_of c k ≤ suc (length s)
+    go zero h = one (eqb c blank)
+    go (suc k) h = omega arith

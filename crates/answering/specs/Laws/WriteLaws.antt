@@ -1,7 +1,7 @@
 -- What WRITE leaves in the lent bytes: the text, which is printed without its fill and with a line feed.
-use Rattle.std.specs.Prelude.{◌≡◌, refl, ◌≢◌, Bool, true, false, cond, ℕ, ◌+◌, ◌≤◌, ◌<◌, eqb, set, take, drop, replicate}
+use Rattle.std.specs.Prelude.{◌≡◌, refl, ◌≢◌, Bool, true, false, cond, ℕ, ◌+◌, ◌≤◌, ◌<◌, eqb, set, take, drop, replicate, Ok, Err}
 use Rattle.std.proofs.Math.Path.{sym, ap, ap₂}
-use Rattle.std.proofs.Common.{◌∙◌, arith, add-one, eq-eqb, ne_eqb, length-drop, length-set, take_at, take-suc-set}
+use Rattle.std.proofs.Common.{◌∙◌, arith, add-one, ne_eqb, length-drop, length-set, take_at, take-suc-set}
 use mathlib.Core.List.{List, [], ◌∷◌, ◌++◌, append_assoc, append-nil}
 use Rattle.std.proofs.lemmas.Bool.{eqb-false}
 use Rattle.std.proofs.Math.ListN.{length, length-append}
@@ -20,7 +20,6 @@ use Rattle.answers.specs.declared.Outcome.{Outcome}
 use Rattle.calls.specs.Promised.{Writes as Written}
 use Rattle.lines.specs.Commands.{writing}
 use Rattle.lines.specs.Printed.{line_feed, reply}
-use Rattle.answering.specs.declared.texts.Texted.{Texted}
 use Rattle.answering.specs.Session.{nothing_kind, free_cells, work_most, writing_of, text_line, does}
 use Rattle.answering.specs.Kept.{reply_most, line_room, Prints, Texts, Speaks}
 use Rattle.answering.specs.Trim.{trimmed}
@@ -138,56 +137,53 @@ pub line_place : (room new : List ℕ) (n : ℕ) → length room ≡ line_room �
 line_place room new n e f l = omega (arith, length-append new (drop text_most room), length-drop text_most room)
 
 module _ (ts : List ℕ) (h : ℕ) (o : Outcome) (old new : List ℕ) (w : Writes ts h o old new) where
-  pub texts_refused : (room : List ℕ) → o.answer ≢ DONE → Texts ts h (record { answer = o.answer; count = 0 }) room
-  texts_refused room n = record { answer = w.answer; line = record { bytes = sym (rw (ne_eqb o.answer DONE n) refl); fits = omega arith } }
+  pub texts_refused : (room : List ℕ) → o.answer ≢ DONE → Texts ts h (Err o.answer) room
+  texts_refused room n = (w.answer, n)
 
   pub texts_done : (rest : List ℕ) (n : ℕ) (d : o.answer ≡ DONE) → n ≡ length (text_of (list_of (shown Four ts) h)) → n < length (new ++ rest)
-      → Texts ts h (record { answer = o.answer; count = n + 1 }) (set (new ++ rest) n line_feed)
-  texts_done rest n d m l = record {
-    answer = w.answer;
-    line = record {
-      bytes = text_line_lem (list_of (shown Four ts) h) old new rest (w.text d).1 n m l ∙ sym (rw (eq-eqb o.answer DONE d) refl);
+      → Texts ts h (Ok (n + 1)) (set (new ++ rest) n line_feed)
+  texts_done rest n d m l = (
+    sym w.answer ∙ d,
+    record {
+      bytes = text_line_lem (list_of (shown Four ts) h) old new rest (w.text d).1 n m l;
       fits = omega (arith, length-set (new ++ rest) n line_feed);
-    };
-  }
+    },
+  )
 
 -- a reply at the start of the output leaves room for a text
 pub reply-room : (a k v f n : ℕ) (out : List ℕ) → Prints (reply a k v f) n out → n ≤ reply_most
 reply-room a k v f n out p = omega (arith, reply_short a k v f, ap length p.bytes, length-take-le n out p.fits)
 
--- WRITE from its reply and its text; parts of k words that are lent start at 0
-module _ (ts out : List ℕ) (h used k count : ℕ) (r : Texted) (room : List ℕ) (e : k ≡ used) (f : used ≤ length ts) (x : Texts (take k ts) h r room) where
-  pub speaks_refused : r.answer ≢ DONE → Prints (reply r.answer nothing_kind 0 (free_cells (take k ts))) count out
-      → Speaks (does (take used ts) (writing h)) (record { used = used; count = count }) ts out
+-- WRITE from its reply and its text
+module _ (us : List ℕ) (h count : ℕ) where
+  pub speaks_refused : (a : ℕ) (out : List ℕ) → (a ≡ (writing_of us h).answer) × (a ≢ DONE) → Prints (reply a nothing_kind 0 (free_cells us)) count out
+      → Speaks (does us (writing h)) us count out
   unfolding does
-  speaks_refused n p = rw (sym e) record {
+  speaks_refused a out x p = record {
     words = refl;
-    fits = omega arith;
     printed = record {
-      bytes = p.bytes ∙ sym (rw (sym x.answer) (rw (ne_eqb r.answer DONE n) (append-nil (reply r.answer nothing_kind 0 (free_cells (take k ts))))));
+      bytes = p.bytes ∙ sym (rw (sym x.0) (rw (ne_eqb a DONE x.1) (append-nil (reply a nothing_kind 0 (free_cells us)))));
       fits = p.fits;
     };
   }
 
-  pub speaks_text : (rest : List ℕ) → r.answer ≡ DONE → Prints (reply DONE nothing_kind 0 (free_cells (take k ts))) count out
-      → Speaks (does (take used ts) (writing h)) (record { used = used; count = count + r.count }) ts (take count out ++ (room ++ rest))
+  pub speaks_text : (n : ℕ) (out room rest : List ℕ) → ((writing_of us h).answer ≡ DONE) × Prints (text_line DONE (list_of (shown Four us) h)) n room
+      → Prints (reply DONE nothing_kind 0 (free_cells us)) count out
+      → Speaks (does us (writing h)) us (count + n) (take count out ++ (room ++ rest))
   unfolding does
-  speaks_text rest d p = rw (sym e) record {
+  speaks_text n out room rest x p = record {
     words = refl;
-    fits = omega arith;
     printed = record {
-      bytes = both
-          ∙ ap₂ ◌++◌ (p.bytes ∙ ap (λ (a : ℕ). reply a nothing_kind 0 (free_cells (take k ts))) (sym d ∙ x.answer))
-          (x.line.bytes ∙ ap (λ (a : ℕ). text_line a (list_of (shown Four (take k ts)) h)) x.answer);
-      fits = omega (arith, l, x.line.fits, length-append (take count out) (room ++ rest), length-append room rest);
+      bytes = both ∙ ap₂ ◌++◌ p.bytes x.1.bytes ∙ sym (rw x.0 refl);
+      fits = omega (arith, l, x.1.fits, length-append (take count out) (room ++ rest), length-append room rest);
     };
   }
     where
       l : length (take count out) ≡ count
       l = length-take-le count out p.fits
 
-      both : take (count + r.count) (take count out ++ (room ++ rest)) ≡ take count out ++ take r.count room
+      both : take (count + n) (take count out ++ (room ++ rest)) ≡ take count out ++ take n room
       both =
-          ap (λ (i : ℕ). take (i + r.count) (take count out ++ (room ++ rest))) (sym l)
-          ∙ take-append-add (take count out) (room ++ rest) r.count
-          ∙ ap (λ (u : List ℕ). take count out ++ u) (take-append-le r.count room rest x.line.fits)
+          ap (λ (i : ℕ). take (i + n) (take count out ++ (room ++ rest))) (sym l)
+          ∙ take-append-add (take count out) (room ++ rest) n
+          ∙ ap (λ (u : List ℕ). take count out ++ u) (take-append-le n room rest x.1.fits)

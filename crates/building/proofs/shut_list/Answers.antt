@@ -9,7 +9,7 @@ hang-requires c =
     record {
       table = c.requires.table;
       h_bound = c.requires.h_bound;
-      cell_le_cells = hook_in c.requires.table c.requires.comes;
+      in_table = hook_in c.requires.table c.requires.comes;
       c_le_cells = omega arith;
     }
 

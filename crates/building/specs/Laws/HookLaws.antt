@@ -1,6 +1,6 @@
 -- A hook stands for its link.
 use Rattle.std.specs.Prelude.{◌≡◌, ◌≢◌, List, ℕ, ◌≤◌, eqb, length}
-use Rattle.std.proofs.Common.{ap, ◌∙◌, arith, eqb-true, eq-eqb, ne_eqb}
+use Rattle.std.proofs.Common.{ap, ◌∙◌, arith, eqb-true, ne_eqb}
 use Rattle.cells.specs.Range.{NewCell}
 use Rattle.pool.specs.Pool.{Cell, Pool}
 use Rattle.pool.specs.Setters.{cell, new_cell}
@@ -8,26 +8,25 @@ use Rattle.table.specs.View.{view, Shows}
 use Rattle.table.specs.Laws.ViewLaws.{said}
 use Rattle.table.specs.declared.Shape.{Shape}
 use Rattle.text.specs.Laws.TextLaws.{by_case}
-use Rattle.building.specs.Build.{Link, in_holder, in_next, in_elem}
-use Rattle.building.specs.Hooks.{link_of, Hung}
+use Rattle.building.specs.Build.{Link, in_next}
+use Rattle.building.specs.Hooks.{link_of, hook_cell, InTable, Hung}
 use Rattle.building.specs.Reading.{hang, LinkOff}
 use Rattle.building.specs.declared.hook.Hook.{Hook}
+use Rattle.building.specs.declared.hook.Hook.TheVariants.{Next, Elem}
 
--- the link by the tests of the code
-pub is_holder : (k : Hook) → k.cell ≡ 0 → link_of k ≡ in_holder
-is_holder k e = simp (eq-eqb k.cell 0 e)
+pub is_next : (c : ℕ) → c ≢ 0 → link_of (Next c) ≡ in_next c
+is_next c n = simp (ne_eqb c 0 n)
 
-pub is_next : (k : Hook) → k.cell ≢ 0 → k.inside ≡ 0 → link_of k ≡ in_next k.cell
-is_next k n e = simp (ne_eqb k.cell 0 n, eq-eqb k.inside 0 e)
+-- a hook off the free chain is in the table
+pub hook_in_table : (s : Shape) (k : Hook) (cs : List Cell) (fs : List ℕ) → length cs ≡ s.cells → LinkOff cs fs (link_of k) → InTable s k
+hook_in_table s (Next c) cs fs n o =
+    by_case (eqb c 0) (λ (l : Link). LinkOff cs fs l → c ≤ s.cells) (λ e o. omega (arith, eqb-true c 0 e)) (λ e o. omega (arith, n, o.high)) o
+hook_in_table s (Elem c) cs fs n o = record { low = o.low; high = omega (arith, n, o.high) }
 
-pub is_elem : (k : Hook) → k.cell ≢ 0 → k.inside ≢ 0 → link_of k ≡ in_elem k.cell
-is_elem k n m = simp (ne_eqb k.cell 0 n, ne_eqb k.inside 0 m)
-
--- a hook off the free chain is a cell, or the holder
-pub hook_high : (k : Hook) (cs : List Cell) (fs : List ℕ) → LinkOff cs fs (link_of k) → k.cell ≤ length cs
-hook_high k cs fs =
-    by_case (eqb k.cell 0) (λ (l : Link). LinkOff cs fs l → k.cell ≤ length cs) (λ e o. omega (arith, eqb-true k.cell 0 e))
-    (λ e. by_case (eqb k.inside 0) (λ (l : Link). LinkOff cs fs l → k.cell ≤ length cs) (λ f o. o.high) (λ f o. o.high))
+-- and so is its cell
+pub cell_in : (s : Shape) (k : Hook) → InTable s k → hook_cell k ≤ s.cells
+cell_in s (Next c) i = i
+cell_in s (Elem c) i = i.high
 
 -- a new cell, where what it is named by is stored before
 pub new_hung : {s : Shape} (ts : List ℕ) {us vs : List ℕ} (k : Hook) (h kind elem : ℕ) {c f : ℕ} → f ≡ (view s ts).free

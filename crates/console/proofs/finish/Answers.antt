@@ -1,12 +1,14 @@
 -- `console::finish` meets its contract.
-use Rattle.std.proofs.Common.{◌≤◌, length, arith}
+use Rattle.std.proofs.Common.{◌≡◌, ◌≢◌, length, rules}
 use Rattle.console.proofs.Ends.{closes_none, closes_line}
 use Rattle.console.proofs.finish.Goals as goal
 
-pub returns-then-s-eq0 : goal.returns-then-s-eq0
-returns-then-s-eq0 c = closes_none c.args.s c.args.line.now c.args.table.now _ c.if-s-eq0.true
+pub returns-then-is_empty : goal.returns-then-is_empty
+returns-then-is_empty c =
+    let e : length c.args.line.now.kept ≡ 0 = search rules in
+    closes_none c.args.line.now c.args.engine.now _ e
 
 pub returns : goal.returns
 returns c =
-    let l : c.args.s.len ≤ length c.args.line.now = omega (arith, c.requires.len, c.requires.long) in
-    closes_line c.args.s c.args.line.now c.args.table.now _ _ _ c.if-s-eq0.false l c.answer-a.ensures
+    let n : length c.args.line.now.kept ≢ 0 = search rules in
+    closes_line c.args.line.now c.args.engine.now _ _ _ _ n c.bytes.ensures.line c.answer.ensures

@@ -1,12 +1,11 @@
 -- `console::serve` meets its contract.
-use Rattle.std.proofs.Common.{◌≡◌, ◌-◌, length}
+use Rattle.std.proofs.Common.{length}
 use Rattle.console.specs.Standing.{mid}
 use Rattle.console.specs.Laws.StandingLaws.{Along}
 use Rattle.console.proofs.serve.Given as goal
 
-abbrev pub invariant-loop-s : goal.invariant-loop-s
-invariant-loop-s g l =
-    (l.n ≡ length l.chunk) × Along l.chunk (mid l.initial.s l.initial.line l.initial.table) l.s l.line l.table l.work l.out
+abbrev pub invariant-loop-behind : goal.invariant-loop-behind
+invariant-loop-behind g l = Along l.chunk (mid l.initial.line l.initial.engine) l.rest (mid l.line l.engine)
 
-abbrev pub decreases-loop-s : goal.decreases-loop-s
-decreases-loop-s g l = l.n - l.s.at
+abbrev pub decreases-loop-behind : goal.decreases-loop-behind
+decreases-loop-behind g l = length l.rest

@@ -1,91 +1,53 @@
 -- What gathering and answering leave, joined to steps, and steps joined along a chunk.
-use Rattle.std.specs.Prelude.{◌≡◌, true, List, [], ◌∷◌, ◌++◌, ℕ, ◌+◌, ◌-◌, ◌≤◌, ◌<◌, length, drop}
+use Rattle.std.specs.Prelude.{◌≡◌, List, [], ◌∷◌, ◌++◌, ℕ, ◌-◌, length, take}
 use Rattle.std.proofs.Math.Path.{refl, sym}
-use Rattle.std.proofs.Common.{ap, ◌∙◌, append-nil, arith, take-add, take_all}
-use Rattle.std.proofs.Math.Bool.{false}
-use Rattle.std.proofs.Math.ListN.{take}
-use Rattle.lines.specs.Splitting.{Line, ready}
-use Rattle.lines.specs.Meaning.{Gathers, stands}
-use Rattle.lines.specs.declared.gather.Gathered.{Gathered}
-use Rattle.lines.specs.Laws.GatherLaws.{gathered, gathers_some}
-use Rattle.answering.specs.declared.answer.Answered.{Answered}
+use Rattle.std.proofs.Common.{ap, ◌∙◌, append-nil, append_assoc}
+use Rattle.std.proofs.lemmas.List.{take-append-drop}
+use Rattle.lines.specs.Splitting.{Line, Part, empty, going, ready, eaten}
+use Rattle.lines.specs.Meaning.{Ends}
 use Rattle.answering.specs.Session.{answered, prints}
 use Rattle.answering.specs.Kept.{Speaks}
-use Rattle.console.specs.declared.State.{State}
 use Rattle.console.specs.Serving.{Mid, leaves}
-use Rattle.console.specs.Standing.{mid, Standing, Stepped, Served}
+use Rattle.console.specs.Standing.{mid, Passed, Stepped, Served}
 use Rattle.console.specs.Laws.ServingLaws.{takes_none, takes_then}
 
 -- no line is whole yet, or one is and is answered
-module _ (s : State) (chunk line ts new : List ℕ) (g : Gathered) (h : Gathers chunk line (gathered s.at s.len s.over false) g new) where
-  pub steps_on : (out : List ℕ) → g.ready ≡ false → s.used ≤ length ts
-      → Stepped s chunk line ts (record { at = g.at; len = g.len; over = g.over; used = s.used; wrote = 0 }) new ts out
-  unfolding prints leaves
-  steps_on out e l =
-      let q : stands new g ≡ record { lines = []; kept = take g.len new; over = g.over } = rw e refl in
-      record {
-        takes = record { lines = []; split = sym h.is ∙ q; words = refl; printed = refl };
-        on = gathers_some chunk line _ g new h refl;
-        at = h.high;
-        len = h.short;
-        used = l;
-        wrote = omega arith;
-      }
+pub passes_on : (old new : Part) (chunk ts : List ℕ) → going new ≡ eaten (going old) chunk → Passed (mid old ts) chunk (mid new ts)
+unfolding prints leaves
+passes_on old new chunk ts h = record { lines = []; split = sym h; words = refl; printed = refl }
 
-  pub steps_line : (us out : List ℕ) (a : Answered) → g.ready ≡ true → Speaks (answered (take s.used ts) (ready (take g.len new) g.over)) a us out
-      → Stepped s chunk line ts (record { at = g.at; len = 0; over = false; used = a.used; wrote = a.count }) new us out
-  unfolding prints leaves
-  steps_line us out a e k =
-      let l : Line = ready (take g.len new) g.over in
-      let q : stands new g ≡ record { lines = l ∷ []; kept = []; over = false } = rw e refl in
-      record {
-        takes = record {
-          lines = l ∷ [];
-          split = sym h.is ∙ q;
-          words = k.words;
-          printed = k.printed.bytes ∙ sym (append-nil (answered (take s.used ts) l).printed);
-        };
-        on = gathers_some chunk line _ g new h refl;
-        at = h.high;
-        len = omega arith;
-        used = k.fits;
-        wrote = k.printed.fits;
-      }
-
--- along a chunk
-pub served_none : (m : Mid) (chunk : List ℕ) → Served m (take 0 chunk) m
-served_none m chunk = record { out = []; takes = takes_none m }
-
-pub served_more : (m : Mid) (chunk line ts new us out : List ℕ) (s r : State) → Served m (take s.at chunk) (mid s line ts)
-    → Stepped s chunk line ts r new us out → s.at ≤ r.at
-    → Served m (take r.at chunk) (mid r new us)
-served_more m chunk line ts new us out s r h k l =
-    let n : s.at + (r.at - s.at) ≡ r.at = omega arith in
-    let q : take r.at chunk ≡ take s.at chunk ++ take (r.at - s.at) (drop s.at chunk) =
-    ap (λ (i : ℕ). take i chunk) (sym n) ∙ take-add s.at (r.at - s.at) chunk in
-    rw q record { out = h.out ++ take r.wrote out; takes = takes_then m _ _ _ _ _ _ h.takes k.takes }
-
-pub served_all : (m n : Mid) (chunk : List ℕ) (k : ℕ) → length chunk ≤ k → Served m (take k chunk) n → Served m chunk n
-served_all m n chunk k l h = rw (sym (take_all k chunk l)) h
+pub steps_line : (old p : Part) (chunk rest ts us out : List ℕ) (count : ℕ) (l : Line) → Ends chunk old rest p → l ≡ ready p.kept p.over
+    → Speaks (answered ts l) us count out → Stepped (mid old ts) chunk rest count (mid empty us) out
+unfolding prints leaves
+steps_line old p chunk rest ts us out count l h e k = record {
+  takes = record {
+    lines = l ∷ [];
+    split = rw e (sym h.is);
+    words = k.words;
+    printed = k.printed.bytes ∙ sym (append-nil (answered ts l).printed);
+  };
+  behind = h.behind;
+  on = h.some;
+  fits = k.printed.fits;
+}
 
 -- what the loop over a chunk knows
-pub record Along (chunk : List ℕ) (m : Mid) (s : State) (line ts ws out : List ℕ) : Type 0 where
-  pub at : s.at ≤ length chunk
-  pub standing : Standing s line ts ws out
-  pub served : Served m (take s.at chunk) (mid s line ts)
+pub record Along (chunk : List ℕ) (m : Mid) (rest : List ℕ) (n : Mid) : Type 0 where
+  pub taken : List ℕ
+  pub is : chunk ≡ taken ++ rest
+  pub served : Served m taken n
 
-pub along-start : (chunk line ts ws out : List ℕ) (s : State) → s.at ≡ 0 → Standing s line ts ws out → Along chunk (mid s line ts) s line ts ws out
-along-start chunk line ts ws out s e h = record { at = omega arith; standing = h; served = rw e (served_none (mid s line ts) chunk) }
+pub along-start : (m : Mid) (chunk : List ℕ) → Along chunk m chunk m
+along-start m chunk = record { taken = []; is = refl; served = record { out = []; takes = takes_none m } }
 
-pub along-step : (chunk line ts ws out new us vs page : List ℕ) (m : Mid) (s r : State) → Along chunk m s line ts ws out → s.at < length chunk
-    → Stepped s chunk line ts r new us page
-    → length new ≡ length line → length us ≡ length ts → length vs ≡ length ws → length page ≡ length out → Along chunk m r new us vs page
-along-step chunk line ts ws out new us vs page m s r i l k a b c d = record {
-  at = k.at;
-  standing = record {
-    len = k.len;
-    long = a ∙ i.standing.long;
-    lent = record { table = b ∙ i.standing.lent.table; in_use = k.used; work = c ∙ i.standing.lent.work; room = omega (arith, i.standing.lent.room) };
-  };
-  served = served_more m chunk line ts new us page s r i.served k (omega (arith, k.on l));
-}
+pub along-step : (chunk rest behind out : List ℕ) (m n k : Mid) (wrote : ℕ) → Along chunk m rest n → Stepped n rest behind wrote k out → Along chunk m behind k
+along-step chunk rest behind out m n k wrote a s =
+    let j : ℕ = length rest - length behind in
+    record {
+      taken = a.taken ++ take j rest;
+      is = a.is ∙ ap (λ (u : List ℕ). a.taken ++ u) (sym (take-append-drop j rest) ∙ ap (λ (u : List ℕ). take j rest ++ u) (sym s.behind)) ∙ sym (append_assoc a.taken (take j rest) behind);
+      served = record { out = a.served.out ++ take wrote out; takes = takes_then m n k _ _ _ _ a.served.takes s.takes };
+    }
+
+pub along-end : (chunk rest : List ℕ) (m n k : Mid) → Along chunk m rest n → Passed n rest k → Served m chunk k
+along-end chunk rest m n k a p = rw a.is (record { out = a.served.out ++ []; takes = takes_then m n k _ _ _ _ a.served.takes p })

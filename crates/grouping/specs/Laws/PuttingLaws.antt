@@ -8,10 +8,11 @@ use Rattle.answers.specs.Answers.{DONE}
 use Rattle.calls.specs.Entry.{over}
 use Rattle.groups.specs.Groups.{number, list_number, elements, groups_of}
 use Rattle.groups.specs.Writing.{Item, items, judged}
-use Rattle.grouping.specs.declared.walk.Walk.{Walk}
+use Rattle.walks.specs.declared.walk.Walk.{Walk}
 use Rattle.grouping.specs.Items.{bytes_in}
 use Rattle.grouping.specs.Putting.{Roomy, Putting}
-use Rattle.grouping.specs.Steps.{walk, Turn, passes, opens}
+use Rattle.grouping.specs.Steps.{Turn, passes, opens}
+use Rattle.walks.specs.Steps.{walk}
 use Rattle.grouping.specs.Walking.{rest, to_go}
 use Rattle.grouping.specs.Laws.ItemLaws.{groups_fit}
 use Rattle.grouping.specs.Laws.TurnLaws.{turned}

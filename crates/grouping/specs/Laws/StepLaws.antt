@@ -4,9 +4,10 @@ use Rattle.std.proofs.Common.{sym, ap, ◌∙◌}
 use Rattle.std.proofs.Math.Seq.{paste, paste-zero}
 use Rattle.groups.specs.Groups.{number}
 use Rattle.groups.specs.Writing.{item}
-use Rattle.grouping.specs.declared.walk.Walk.{Walk}
+use Rattle.walks.specs.declared.walk.Walk.{Walk}
 use Rattle.grouping.specs.Items.{bytes_in}
-use Rattle.grouping.specs.Steps.{atom_in, list_in, ending, pass_at, open_at}
+use Rattle.grouping.specs.Steps.{atom_in, list_in, ending}
+use Rattle.walks.specs.Steps.{pass_at, open_at}
 use Rattle.grouping.specs.Laws.ItemLaws.{bytes_one}
 use Rattle.pool.specs.Pool.{Cell}
 

@@ -8,9 +8,10 @@ use Rattle.std.proofs.lemmas.Bool.{lt-leb}
 use Rattle.groups.specs.Groups.{number, atom_number, list_number}
 use Rattle.groups.specs.Writing.{Item, item, items_at, too_deep}
 use Rattle.groups.specs.Laws.Sizes.{number_size}
-use Rattle.grouping.specs.declared.walk.Walk.{Walk}
+use Rattle.walks.specs.declared.walk.Walk.{Walk}
 use Rattle.grouping.specs.Items.{bytes_in}
-use Rattle.grouping.specs.Steps.{elements_at, bottom, atom_in, list_in, ending, shut_at, pass_at, open_at, kept_at, Turn, shuts, passes, opens}
+use Rattle.grouping.specs.Steps.{elements_at, bottom, atom_in, list_in, ending, Turn, shuts, passes, opens}
+use Rattle.walks.specs.Steps.{shut_at, pass_at, open_at, kept_at}
 use Rattle.grouping.specs.Walking.{rest, turns_below, Turned}
 use Rattle.grouping.specs.Laws.ItemLaws.{bytes_one}
 use Rattle.lists.specs.Lst.{Lst, nil, atom, list, len}

@@ -6,9 +6,10 @@ use Rattle.std.proofs.Math.Seq.{drop-append_seam}
 use Rattle.answers.specs.Answers.{DONE, DEEP, OUTPUT}
 use Rattle.groups.specs.Groups.{number, list_number, elements, groups_of}
 use Rattle.groups.specs.Writing.{Item, item, items_at, items, judged}
-use Rattle.grouping.specs.declared.walk.Walk.{Walk}
+use Rattle.walks.specs.declared.walk.Walk.{Walk}
 use Rattle.grouping.specs.Items.{bytes_in}
-use Rattle.grouping.specs.Steps.{elements_at, list_number_at, walk, MayTurn}
+use Rattle.grouping.specs.Steps.{elements_at, list_number_at, MayTurn}
+use Rattle.walks.specs.Steps.{walk}
 use Rattle.grouping.specs.Walking.{rest, turns_below, Walking, Turned, to_go}
 use Rattle.grouping.specs.Laws.ItemLaws.{bytes-append, bytes_one, bytes-elements, judged_front, judged-over, judged_deep}
 use Rattle.grouping.specs.Laws.TurnLaws.{list_shallow, list_deep, deeper, list_left}

@@ -1,28 +1,22 @@
 -- `heads::borrow` meets its contract.
-use Rattle.cells.specs.Laws.RangeLaws.{holder_high, count_high}
+use Rattle.std.proofs.Common.{ap}
+use Rattle.cells.specs.Laws.LentLaws.{holder_high, count_high}
+use Rattle.cells.specs.Lent.{on}
 use Rattle.heads.specs.Laws.HeadLaws.{is_borrow}
-use Rattle.pool.specs.Setters.{put_holder}
-use Rattle.table.specs.Laws.ViewLaws.{after, said}
+use Rattle.pool.specs.Pool.{Pool}
 use Rattle.heads.proofs.borrow.Goals as goal
 
-pub share-requires : goal.share-requires
-share-requires c =
-    record {
-      table = c.requires.table;
-      x_le_cells = rw c.holder_of-x.ensures.0 (holder_high _ _ c.requires.table c.requires.sound _);
-      x_bound = count_high _ _ c.requires.table c.requires.sound _ _ c.requires.a_bound.1 c.requires.b_value;
-    }
+pub share-requires-clause-x_bound : goal.share-requires-clause-x_bound
+share-requires-clause-x_bound c = count_high _ c.requires.asked.sized c.requires.asked.sound _ _ c.requires.asked.a_bound.1 c.requires.b_value
 
-pub set_holder-requires : goal.set_holder-requires
-set_holder-requires c =
-    record {
-      table = c.share.ensures.table;
-      h_bound = c.requires.a_bound.1;
-      v_le_cells = rw c.holder_of-x.ensures.0 (holder_high _ _ c.requires.table c.requires.sound _);
-    }
+pub share-requires-clause-x_le_cells : goal.share-requires-clause-x_le_cells
+share-requires-clause-x_le_cells c = rw c.holder_of-x.ensures.0 (holder_high _ c.requires.asked.sized c.requires.asked.sound _)
+
+pub set_holder-requires-clause-v_le_cells : goal.set_holder-requires-clause-v_le_cells
+set_holder-requires-clause-v_le_cells c =
+    rw (c.share.ensures, c.holder_of-x.ensures.0) (holder_high _ c.requires.asked.sized c.requires.asked.sound _)
 
 pub returns : goal.returns
 returns c =
-    let a = c.args in
-    let x = c.holder_of-x in
-    said (after (put_holder a.b x.result) c.share.ensures c.set_holder.ensures) (is_borrow _ _ _ _ x.ensures.0)
+    rw (c.set_holder.ensures, c.share.ensures)
+    (ap (λ (q : Pool). on (λ _. q) c.args.p.now) (is_borrow _ _ _ _ c.holder_of-x.ensures.0))

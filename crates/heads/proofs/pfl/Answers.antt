@@ -1,33 +1,24 @@
 -- `heads::pfl` meets its contract.
-use native.Mathlib.Omega.{arith}
-use Rattle.cells.specs.Laws.RangeLaws.{spare, holder_high}
+use Rattle.std.proofs.Common.{ap, arith}
+use Rattle.cells.specs.Laws.LentLaws.{spare, holder_high}
+use Rattle.cells.specs.Lent.{on}
 use Rattle.heads.specs.Laws.HeadLaws.{is_pfl}
-use Rattle.pool.specs.Setters.{put_holder}
-use Rattle.table.specs.Laws.ViewLaws.{after, said}
+use Rattle.pool.specs.Pool.{Pool}
 use Rattle.heads.proofs.pfl.Goals as goal
 
-pub new_cell-x-requires : goal.new_cell-x-requires
-new_cell-x-requires c =
-    record {
-      table = c.requires.table;
-      spare = spare _ _ c.requires.table c.requires.sound c.requires.t_nonzero;
-      kind_bound = (omega arith, rw c.holder_of-old.ensures.0 (holder_high _ _ c.requires.table c.requires.sound _));
-    }
+pub new_cell-x-requires-clause-spare : goal.new_cell-x-requires-clause-spare
+new_cell-x-requires-clause-spare c = spare _ c.requires.asked.sized c.requires.asked.sound c.requires.free
 
-pub set_holder-requires : goal.set_holder-requires
-set_holder-requires c =
-    record {
-      table = c.new_cell-x.ensures.1.table;
-      h_bound = c.requires.a_bound.0;
-      v_le_cells = rw c.new_cell-x.ensures.0 (spare _ _ c.requires.table c.requires.sound c.requires.t_nonzero).cell.high;
-    }
+pub new_cell-x-requires-clause-kind_bound : goal.new_cell-x-requires-clause-kind_bound
+new_cell-x-requires-clause-kind_bound c =
+    (omega arith, rw c.holder_of-old.ensures.0 (holder_high _ c.requires.asked.sized c.requires.asked.sound _))
+
+pub set_holder-requires-clause-v_le_cells : goal.set_holder-requires-clause-v_le_cells
+set_holder-requires-clause-v_le_cells c =
+    rw (c.new_cell-x.ensures.left, c.new_cell-x.ensures.told) (spare _ c.requires.asked.sized c.requires.asked.sound c.requires.free).cell.high
 
 pub returns : goal.returns
 returns c =
-    let a = c.args in
-    let k = c.new_cell-x in
-    said
-    (after (put_holder a.b 0) (after (put_holder a.a k.result) k.ensures.1 c.set_holder.ensures)
-    c.set_holder-2.ensures)
-    (is_pfl _ _ _ _ _ _ c.holder_of-old.ensures.0 c.holder_of-e.ensures.0
-    k.ensures.0)
+    rw (c.set_holder-2.ensures, c.set_holder.ensures, c.new_cell-x.ensures.left)
+    (ap (λ (q : Pool). on (λ _. q) c.args.p.now)
+    (is_pfl _ _ _ _ _ _ c.holder_of-old.ensures.0 c.holder_of-e.ensures.0 c.new_cell-x.ensures.told))

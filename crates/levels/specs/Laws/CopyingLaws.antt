@@ -19,13 +19,13 @@ use Rattle.pool.specs.Laws.Frame.{Kept}
 use Rattle.pool.specs.Laws.Held.{Held, reroot}
 use Rattle.pool.specs.Laws.Level.{Level, list_level, length_is}
 use Rattle.pool.specs.Operations.{share, item, with_twin, copy, cinv, length_of}
-use Rattle.pool.specs.Pool.{Cell, blank, Pool, kind_of, elem_of, count_of, next_of, counted, holder, Live, lives, frees, Sound}
+use Rattle.pool.specs.Pool.{Cell, blank, Pool, count_of, next_of, counted, holder, Live, lives, frees, Sound}
 use Rattle.pool.specs.Laws.Reach.{elem_ok, len_le}
 use Rattle.pool.specs.Laws.Room.{room, frees-lives}
 use Rattle.pool.specs.Laws.SoundLaws.{none_aside, sound_held, denoted}
 use Rattle.pool.specs.Tally.{same, occ}
 use Rattle.pool.specs.Laws.TallyLaws.{same_ne, same_le}
-use Rattle.pool.specs.Setters.{cell, celled, put_cell, put_holder}
+use Rattle.pool.specs.Setters.{put_holder}
 use Rattle.levels.specs.Copying.{copying, over, moved, told, Copyable, Sure, made, placed, Copies}
 
 -- one more arrow to a cell changes no successor
@@ -41,11 +41,6 @@ unfolding share
 share-next cs zero d = refl
 share-next cs (suc i) zero = refl
 share-next cs (suc i) (suc j) = counted_next cs i j (suc (count_of cs (suc i)))
-
--- a new cell with the fields that the code has read
-pub is_twin : (p : Pool) (f x y : ℕ) {k e i : ℕ} → k ≡ kind_of p.cells x → e ≡ elem_of p.cells x → i ≡ item p.cells x
-    → put_cell f (cell k e 1 y) (celled (share p.cells i) p) ≡ celled (with_twin f p.cells x y) p
-is_twin p f x y ek ee ei = λ j. put_cell f (cell (ek j) (ee j) 1 y) (celled (share p.cells (ei j)) p)
 
 level_grown : (cs ds : List Cell) → Kept ds cs → (n c : ℕ) → Level n cs c → Level n ds c
 unfolding Level

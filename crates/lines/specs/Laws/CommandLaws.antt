@@ -1,54 +1,108 @@
--- A line's start compared with a name byte by byte, and what a name and its numbers ask for, by the tests that the code makes.
-use Rattle.std.specs.Prelude.{◌≡◌, true, false, List, ℕ, ◌+◌, ◌≤◌, ◌<◌, length, get_or, drop}
-use Rattle.std.proofs.Math.Path.{refl}
-use Rattle.std.proofs.Common.{sym, ap, ◌∙◌, eq-eqb, ne_eqb, drop_of_length-le}
-use Rattle.std.proofs.Math.Numerals.{add-one}
-use Rattle.std.proofs.Math.Seq.{drop-cons}
-use Rattle.lines.specs.declared.order.Name.{Name}
+-- A line's start compared with a name, by the tests that the code makes.
+use Rattle.std.specs.Prelude.{◌≡◌, refl, Bool, true, false, cond, ◌&&◌, List, [], ◌∷◌, ℕ, ◌≤◌, eqb, length, take, drop, Option, Some, None, MatchOption}
+use Prim.Native.String.{String}
+use Rattle.std.specs.Cmp.Lexicographic.{pointwise}
+use Rattle.std.specs.Borrow.{Bor}
+use Rattle.std.proofs.Common.{sym, ap, ◌∙◌, arith, length-drop, eq-eqb, ne_eqb, eqb-true}
+use Rattle.std.proofs.lemmas.Bool.{eqb-false}
+use Rattle.calls.specs.Chars.{chars}
+use Rattle.answers.specs.declared.code.Code.{Code}
 use Rattle.pool.specs.Script.{PFA}
-use Rattle.lines.specs.Commands.{malformed, operation, reading, starts_with, name_or, name_of_two, name_of_one, second, with_text, with_two, with_one, operation_in}
-use Rattle.lines.specs.Numbers.{number_in, parted, ended}
+use Rattle.lines.specs.Commands.{Command, malformed, new, operation, reading, writing, Name, starts_with, name_or, name_of_two, name_of_one, with_second, with_two, with_one, operation_in, new_in, reading_in, writing_in, command}
+use Rattle.lines.specs.Numbers.{Start, number, none, blank, digits, past, value, allowed, number_in, after_blank, parted, ended}
+use Rattle.lines.specs.Meaning.{named}
 
-module _ (name line : List ℕ) (i : ℕ) where
-  pub starts_short : i < length name → length line ≤ i → starts_with (drop i name) (drop i line) ≡ false
-  unfolding starts_with
-  starts_short l m = rw (drop_of_length-le line m, drop-cons name i 0 l) refl
+eqb-sym : (a b : ℕ) → eqb a b ≡ eqb b a
+eqb-sym a b = go (eqb a b) refl
+  where
+    go : (x : Bool) → eqb a b ≡ x → eqb a b ≡ eqb b a
+    go true e = e ∙ sym (eq-eqb b a (sym (eqb-true a b e)))
+    go false e = e ∙ sym (ne_eqb b a (λ q. eqb-false a b e (sym q)))
 
-  pub starts_other : i < length name → i < length line → (get_or name i 0 ≡ get_or line i 0 → ⊥) → starts_with (drop i name) (drop i line) ≡ false
-  unfolding starts_with
-  starts_other l m n = rw (drop-cons name i 0 l, drop-cons line i 0 m) (rw (ne_eqb (get_or name i 0) (get_or line i 0) n) refl)
+-- the library compares as many bytes as the name has
+pub starts-pointwise : (n s : List ℕ) → pointwise eqb (take (length n) s) n ≡ starts_with n s
+unfolding starts_with
+starts-pointwise [] s = refl
+starts-pointwise (c ∷ n) [] = refl
+starts-pointwise (c ∷ n) (x ∷ s) = rw (eqb-sym x c) (ap (λ (b : Bool). eqb c x && b) (starts-pointwise n s))
 
-  pub starts-same : i < length name → i < length line → get_or name i 0 ≡ get_or line i 0 → starts_with (drop i name) (drop i line) ≡ starts_with (drop (i + 1) name) (drop (i + 1) line)
-  unfolding starts_with
-  starts-same l m e = rw (drop-cons name i 0 l, drop-cons line i 0 m) (rw (eq-eqb (get_or name i 0) (get_or line i 0) e) (rw add-one refl))
+-- so whether a line starts with a name is what the library told
+pub begins : (n : String) (s : List ℕ) {b : Bool} → pointwise eqb (take (length (chars n)) s) (chars n) ≡ b → starts_with (chars n) s ≡ b
+begins n s e = sym (starts-pointwise (chars n) s) ∙ e
 
-  pub starts-all : length name ≤ i → starts_with (drop i name) (drop i line) ≡ true
-  unfolding starts_with
-  starts-all l = rw (drop_of_length-le name l) refl
+-- a name behind others
+pub or_name : (n : List ℕ) (c : ℕ) (s : List ℕ) (q r : Option (Code × Bor (List ℕ))) {t : Option Name} → MatchOption q (named r ≡ name_or n c s None) (λ x. r ≡ Some x)
+    → named q ≡ t → named r ≡ name_or n c s t
+unfolding name_or
+or_name n c s None r h e = h ∙ ap (name_or n c s) e
+or_name n c s (Some x) r h e = ap named h ∙ ap (name_or n c s) e
 
--- a name before others
-pub or_name : (n : List ℕ) (c : ℕ) (s : List ℕ) {p q r : Name} → r ≡ name_or n c s p → p ≡ q → r ≡ name_or n c s q
-or_name n c s e f = e ∙ ap (name_or n c s) f
+-- READ's text is a part of its line
+text_size : Command → ℕ
+text_size (reading h xs) = length xs
+text_size malformed = 0
+text_size (new n) = 0
+text_size (operation c a b v) = 0
+text_size (writing h) = 0
 
-pub with_text_lem : (s : List ℕ) (h at : ℕ) → at < length s → reading h (drop at s) ≡ with_text h (drop at s)
-with_text_lem s h at l = rw (drop-cons s at 0 l) refl
+reading_size : (s : List ℕ) → text_size (reading_in (parted (number_in s))) ≤ length s
+unfolding text_size number_in
+reading_size s = go (allowed (length (digits s)) (value 0 (digits s))) (past s) (omega (arith, length-drop (length (digits s)) s))
+  where
+    texts : (b : Bool) (v : ℕ) (r : List ℕ) → length r ≤ length s → text_size (reading_in (cond b (number v r) none)) ≤ length s
+    texts true v [] l = omega arith
+    texts true v (c ∷ r) l = omega arith
+    texts false v r l = omega arith
 
-pub no_text : (s : List ℕ) (h at : ℕ) → length s ≤ at → malformed ≡ with_text h (drop at s)
-no_text s h at l = rw (drop_of_length-le s l) refl
+    blanks : (v : ℕ) (t : List ℕ) → length t ≤ length s → text_size (reading_in (after_blank v t)) ≤ length s
+    blanks v [] l = omega arith
+    blanks v (c ∷ r) l = texts (eqb c blank) v r (omega arith)
 
-pub second-pfa : (c a x : ℕ) → c ≡ PFA → operation c a 0 x ≡ second c a x
-second-pfa c a x e = rw (eq-eqb c PFA e) refl
+    go : (b : Bool) (t : List ℕ) → length t ≤ length s → text_size (reading_in (parted (cond b (number (value 0 (digits s)) t) none))) ≤ length s
+    go true t l = blanks (value 0 (digits s)) t l
+    go false t l = omega arith
 
-pub second-other : (c a x : ℕ) → (c ≡ PFA → ⊥) → operation c a x 0 ≡ second c a x
-second-other c a x n = rw (ne_eqb c PFA n) refl
+others_size : (a b : Option Name) (n : ℕ) → text_size (operation_in a b) ≤ n
+unfolding text_size
+others_size (Some m) b n = two (parted (number_in m.rest))
+  where
+    last : (c v : ℕ) (e : Start) → text_size (with_second c v e) ≤ n
+    last c v none = omega arith
+    last c v (number x r) = by (eqb c PFA)
+      where
+        by : (p : Bool) → text_size (cond p (operation c v 0 x) (operation c v x 0)) ≤ n
+        by true = omega arith
+        by false = omega arith
 
-module _ (s : List ℕ) (n : Name) where
-  pub is_two : n ≡ name_of_two s → (n.code ≡ 0 → ⊥) → with_two n.code (parted (number_in (drop n.long s))) ≡ operation_in (name_of_two s) (name_of_one s) s
-  is_two e h = rw (sym e) (rw (ne_eqb n.code 0 h) refl)
+    two : (s : Start) → text_size (with_two m.code s) ≤ n
+    two none = omega arith
+    two (number v r) = last m.code v (ended (number_in r))
+others_size None (Some m) n = one (ended (number_in m.rest))
+  where
+    one : (s : Start) → text_size (with_one m.code s) ≤ n
+    one none = omega arith
+    one (number v r) = omega arith
+others_size None None n = omega arith
 
-  module _ (m : Name) (e : n ≡ name_of_two s) (q : m ≡ name_of_one s) (z : n.code ≡ 0) where
-    pub is_one : (m.code ≡ 0 → ⊥) → with_one m.code (ended (number_in (drop m.long s))) ≡ operation_in (name_of_two s) (name_of_one s) s
-    is_one h = rw (sym e, sym q) (rw (eq-eqb n.code 0 z, ne_eqb m.code 0 h) refl)
+command_size : (s : List ℕ) → text_size (command s) ≤ length s
+unfolding command text_size
+command_size s = go (starts_with (chars "NEW ") s) (starts_with (chars "READ ") s) (starts_with (chars "WRITE ") s)
+  where
+    news : (x : Start) → text_size (new_in x) ≤ length s
+    news none = omega arith
+    news (number n r) = omega arith
 
-    pub is_none : m.code ≡ 0 → malformed ≡ operation_in (name_of_two s) (name_of_one s) s
-    is_none h = rw (sym e, sym q) (rw (eq-eqb n.code 0 z, eq-eqb m.code 0 h) refl)
+    writes : (x : Start) → text_size (writing_in x) ≤ length s
+    writes none = omega arith
+    writes (number n r) = omega arith
+
+    go : (a b c : Bool) → text_size (cond a (new_in (ended (number_in (drop 4 s)))) (cond b (reading_in (parted (number_in (drop 5 s))))
+        (cond c (writing_in (ended (number_in (drop 6 s)))) (operation_in (name_of_two s) (name_of_one s))))) ≤ length s
+    go true b c = news (ended (number_in (drop 4 s)))
+    go false true c = omega (arith, reading_size (drop 5 s), length-drop 5 s)
+    go false false true = writes (ended (number_in (drop 6 s)))
+    go false false false = others_size (name_of_two s) (name_of_one s) (length s)
+
+pub text_short : (s xs : List ℕ) (h : ℕ) → reading h xs ≡ command s → length xs ≤ length s
+unfolding text_size
+text_short s xs h e = let k : length xs ≡ text_size (command s) = ap text_size e in omega (arith, k, command_size s)

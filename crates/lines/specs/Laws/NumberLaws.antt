@@ -1,30 +1,18 @@
--- Reading digits from left to right, and what stands behind a number, by the tests that the code makes.
-use Rattle.std.specs.Prelude.{◌≡◌, refl, Bool, true, false, cond, ◌&&◌, List, [], ◌∷◌, ℕ, ◌+◌, ◌*◌, ◌-◌, ◌≤◌, ◌<◌, eqb, leb, length, get_or, drop}
-use Rattle.std.proofs.Common.{sym, ap, ◌∙◌, arith, add-one, le-leb, lt-ltb, le-ltb, leb-true, drop_of_length-le, drop-cons, drop-drop}
+-- Reading digits from left to right, by the tests that the code makes.
+use Rattle.std.specs.Prelude.{◌≡◌, refl, Bool, true, false, ◌&&◌, List, [], ◌∷◌, ℕ, ◌+◌, ◌*◌, ◌-◌, ◌≤◌, ◌<◌, ◌⊎◌, leb, length, get_or, take, drop}
+use Rattle.std.proofs.Common.{sym, ap, ◌∙◌, arith, inl, inr, le-leb, lt-ltb, le-ltb, leb-true, drop_of_length-le, drop-cons, add-one}
 use Rattle.std.proofs.lemmas.Bool.{false≢true, lt-leb}
-use Rattle.lines.specs.declared.number.Found.TheVariants.{Number, Nothing}
-use Rattle.lines.specs.Numbers.{digits_most, numbers_end, blank, is_digit_byte, digits, value, allowed, number, none, number_in, parted, ended}
-use Rattle.lines.specs.Meaning.{found, within}
+use Rattle.std.specs.List.{prefix_len}
+use Rattle.std.proofs.lemmas.List.{get_or-take}
+use Rattle.std.proofs.lemmas.List.Folds.{length-prefix_len}
+use Rattle.std.proofs.lemmas.List.Sums.{prefix_len_passes}
+use Rattle.lines.specs.Numbers.{digits_most, numbers_end, is_digit_byte, digits, value, allowed, number, none, number_in}
 
--- the judgement on a number, by its three tests
-pub no_digits : (n v end : ℕ) → n < 1 → Nothing ≡ within n v end
-no_digits n v end h = rw (lt-leb 1 n h)
+-- the digits are as many bytes as there are digits
+pub digits_taken : (s ds : List ℕ) (n : ℕ) → n ≡ length (digits s) → ds ≡ take n s → ds ≡ digits s
+digits_taken s ds n e f = f ∙ ap (λ (k : ℕ). take k s) (e ∙ length-prefix_len is_digit_byte s)
 
-pub many_digits : (n v end : ℕ) → digits_most < n → Nothing ≡ within n v end
-many_digits n v end h = rw (le-leb 1 n (omega arith), lt-leb n digits_most h)
-
-pub large : (n v end : ℕ) → numbers_end ≤ v → Nothing ≡ within n v end
-large n v end h = rw (le-ltb v numbers_end h) (go (leb 1 n) (leb n digits_most))
-  where
-    go : (a b : Bool) → Nothing ≡ cond (a && (b && false)) (Number v end) Nothing
-    go true true = refl
-    go true false = refl
-    go false b = refl
-
-pub small : (n v end : ℕ) → 1 ≤ n → n ≤ digits_most → v < numbers_end → Number v end ≡ within n v end
-small n v end a b h = rw (le-leb 1 n a, le-leb n digits_most b, lt-ltb v numbers_end h)
-
-pub digit_range : (c : ℕ) → is_digit_byte c ≡ true → (48 ≤ c) × (c ≤ 57)
+digit_range : (c : ℕ) → is_digit_byte c ≡ true → (48 ≤ c) × (c ≤ 57)
 digit_range c e = go (leb 48 c) (leb c 57) refl refl e
   where
     go : (a b : Bool) → leb 48 c ≡ a → leb c 57 ≡ b → (a && b) ≡ true → (48 ≤ c) × (c ≤ 57)
@@ -33,76 +21,58 @@ digit_range c e = go (leb 48 c) (leb c 57) refl refl e
     go false b ea eb e = absurd (false≢true e)
 
 -- digits only make a number larger
-pub value_grows : (ds : List ℕ) (v : ℕ) → v ≤ value v ds
+value_grows : (ds : List ℕ) (v : ℕ) → v ≤ value v ds
 unfolding value
 value_grows [] v = omega arith
 value_grows (c ∷ ds) v = omega (arith, value_grows ds (10 * v + (c - 48)))
 
--- i digits from `at` have been read and make v: what is still to come is told by the rest
-pub record Reads (s : List ℕ) (at v i : ℕ) : Type 0 where
-  pub low : at ≤ i
-  pub total : value v (digits (drop i s)) ≡ value 0 (digits (drop at s))
-  pub count : (i - at) + length (digits (drop i s)) ≡ length (digits (drop at s))
+-- i digits have been read and make v: what is still to come is told by the rest
+abbrev pub Reads : List ℕ → ℕ → ℕ → Type 0
+Reads ds v i = value v (drop i ds) ≡ value 0 ds
 
-digits_more : (s : List ℕ) (i : ℕ) → i < length s → is_digit_byte (get_or s i 0) ≡ true → digits (drop i s) ≡ get_or s i 0 ∷ digits (drop (i + 1) s)
-unfolding digits
-digits_more s i l e = rw (drop-cons s i 0 l) (rw e (rw add-one refl))
+module _ (ds : List ℕ) (v i w : ℕ) (r : Reads ds v i) (l : i < length ds) where
+  more : Reads ds (10 * v + (get_or ds i 0 - 48)) (i + 1)
+  unfolding value
+  more = rw add-one (sym (ap (value v) (drop-cons ds i 0 l)) ∙ r)
 
-digits-over : (s : List ℕ) (i : ℕ) → i < length s → is_digit_byte (get_or s i 0) ≡ false → digits (drop i s) ≡ []
-unfolding digits
-digits-over s i l e = rw (drop-cons s i 0 l) (rw e refl)
+  pub reads_more : w ≡ 10 * v + (get_or ds i 0 - 48) → Reads ds w (i + 1)
+  reads_more e = rw e more
 
-digits_out : (s : List ℕ) (i : ℕ) → length s ≤ i → digits (drop i s) ≡ []
-unfolding digits
-digits_out s i l = ap digits (drop_of_length-le s l)
+  pub reads_large : w ≤ 10 * v + (get_or ds i 0 - 48) → w ≤ value 0 ds
+  reads_large h = omega (arith, more, value_grows (drop (i + 1) ds) (10 * v + (get_or ds i 0 - 48)), h)
 
-pub reads_more : (s : List ℕ) (at v i : ℕ) → Reads s at v i → i < length s → is_digit_byte (get_or s i 0) ≡ true → Reads s at (10 * v + (get_or s i 0 - 48)) (i + 1)
+-- each byte that is read is a digit
+pub digit_read : (s ds : List ℕ) (i : ℕ) → ds ≡ digits s → i < length ds → (48 ≤ get_or ds i 0) × (get_or ds i 0 ≤ 57)
+digit_read s ds i e l = rw e (
+    let k : i < prefix_len is_digit_byte s = omega (arith, ap length e, l, length-prefix_len is_digit_byte s) in
+    rw (get_or-take (prefix_len is_digit_byte s) s i 0 k) (digit_range (get_or s i 0) (prefix_len_passes is_digit_byte s i 0 k))
+    )
+
+pub reads_all : (ds : List ℕ) (v i : ℕ) → Reads ds v i → length ds ≤ i → v ≡ value 0 ds
 unfolding value
-reads_more s at v i r l e =
-    let d = digits_more s i l e in
-    record { low = omega (arith, r.low); total = sym (ap (value v) d) ∙ r.total; count = omega (arith, r.low, r.count, ap length d) }
+reads_all ds v i r l = sym (ap (value v) (drop_of_length-le ds l)) ∙ r
 
--- the number is judged where its digits end
-at_end_lem : (s : List ℕ) (at v i : ℕ) → Reads s at v i → digits (drop i s) ≡ [] → found s (within (i - at) v i) ≡ number_in (drop at s)
-unfolding value number_in
-at_end_lem s at v i r e =
-    let n : length (digits (drop at s)) ≡ i - at = omega (arith, r.count, ap length e) in
-    let w : value 0 (digits (drop at s)) ≡ v = sym r.total ∙ ap (value v) e in
-    rw n (rw w (go (allowed (i - at) v)))
-  where
-    go : (b : Bool) → found s (cond b (Number v i) Nothing) ≡ cond b (number v (drop (i - at) (drop at s))) none
-    go true = let q : i ≡ at + (i - at) = omega (arith, r.low) in ap (number v) (ap (λ (k : ℕ). drop k s) q ∙ sym (drop-drop (i - at) at s))
-    go false = refl
+-- the judgement on a number, by its tests
+module _ (s : List ℕ) where
+  none_judged : allowed (length (digits s)) (value 0 (digits s)) ≡ false → none ≡ number_in s
+  unfolding number_in
+  none_judged e = rw e refl
 
-pub judged-over : (s : List ℕ) (at v i : ℕ) → Reads s at v i → i < length s → is_digit_byte (get_or s i 0) ≡ false → found s (within (i - at) v i) ≡ number_in (drop at s)
-judged-over s at v i r l e = at_end_lem s at v i r (digits-over s i l e)
+  pub count_judged : (length (digits s) ≡ 0) ⊎ (digits_most < length (digits s)) → none ≡ number_in s
+  count_judged (inl e) = none_judged (rw e refl)
+  count_judged (inr h) = none_judged (rw (le-leb 1 (length (digits s)) (omega arith), lt-leb (length (digits s)) digits_most h) refl)
 
-pub judged_out : (s : List ℕ) (at v i : ℕ) → Reads s at v i → length s ≤ i → found s (within (i - at) v i) ≡ number_in (drop at s)
-judged_out s at v i r l = at_end_lem s at v i r (digits_out s i l)
+  pub large_judged : numbers_end ≤ value 0 (digits s) → none ≡ number_in s
+  large_judged h = none_judged (rw (le-ltb (value 0 (digits s)) numbers_end h) (go (leb 1 (length (digits s))) (leb (length (digits s)) digits_most)))
+    where
+      go : (a b : Bool) → (a && (b && false)) ≡ false
+      go true true = refl
+      go true false = refl
+      go false b = refl
 
-pub judged_large : (s : List ℕ) (at v i : ℕ) → Reads s at v i → numbers_end ≤ v → none ≡ number_in (drop at s)
-unfolding number_in
-judged_large s at v i r h =
-    rw (le-ltb (value 0 (digits (drop at s))) numbers_end (omega (arith, r.total, value_grows (digits (drop i s)) v)))
-    (go (leb 1 (length (digits (drop at s)))) (leb (length (digits (drop at s))) digits_most))
-  where
-    go : (a b : Bool) → none ≡ cond (a && (b && false)) (number (value 0 (digits (drop at s))) (drop (length (digits (drop at s))) (drop at s))) none
-    go true true = refl
-    go true false = refl
-    go false b = refl
-
--- what stands behind the number v that ends at a place
-pub behind-blank : (s : List ℕ) (v end : ℕ) → end < length s → get_or s end 0 ≡ blank → number v (drop (end + 1) s) ≡ parted (number v (drop end s))
-behind-blank s v end l e = rw (drop-cons s end 0 l) (rw e (rw add-one refl))
-
-pub behind-other : (s : List ℕ) (v end : ℕ) → end < length s → eqb (get_or s end 0) blank ≡ false → none ≡ parted (number v (drop end s))
-behind-other s v end l e = rw (drop-cons s end 0 l) (rw e refl)
-
-pub behind-nothing : (s : List ℕ) (v end : ℕ) → length s ≤ end → none ≡ parted (number v (drop end s))
-behind-nothing s v end l = rw (drop_of_length-le s l) refl
-
-pub not_last : (s : List ℕ) (v end : ℕ) → end < length s → none ≡ ended (number v (drop end s))
-not_last s v end l = rw (drop-cons s end 0 l) refl
-
-pub is_last : (s : List ℕ) (v end : ℕ) → length s ≤ end → number v (drop end s) ≡ ended (number v (drop end s))
-is_last s v end l = rw (drop_of_length-le s l) refl
+  pub judged : (v : ℕ) (rest : List ℕ) → v ≡ value 0 (digits s) → rest ≡ drop (length (digits s)) s → v < numbers_end → 0 < length (digits s) → length (digits s) ≤ digits_most
+      → number v rest ≡ number_in s
+  unfolding number_in
+  judged v rest e f h a b =
+      let k : value 0 (digits s) < numbers_end = omega arith in
+      rw (le-leb 1 (length (digits s)) a, le-leb (length (digits s)) digits_most b, lt-ltb (value 0 (digits s)) numbers_end k, e, f) refl

@@ -1,68 +1,46 @@
--- A text filled to a full record: its length, and its bytes one by one.
-use Rattle.std.specs.Prelude.{◌≡◌, refl, List, [], ◌∷◌, ◌++◌, ℕ, zero, suc, ◌+◌, ◌*◌, ◌-◌, ◌/◌, ◌%◌, ◌≤◌, ◌<◌, get_or, set, take, drop, replicate}
-use Rattle.std.proofs.Math.Path.{sym}
-use Rattle.std.proofs.Common.{ap, ◌∙◌, arith, add-one, drop_of_length-le, length-append, length-drop, take-suc}
-use Rattle.std.proofs.Math.ListN.{length}
-use Rattle.std.proofs.lemmas.List.{length-replicate, get_or-replicate}
-use Rattle.std.proofs.Math.Seq.{take-length, get_or-drop}
+-- A text filled to a full record: its length, and its bytes where they were stored.
+use Rattle.std.specs.Prelude.{◌≡◌, List, ◌++◌, ℕ, ◌+◌, ◌*◌, ◌-◌, ◌%◌, ◌≤◌, length, take, drop, replicate}
+use Rattle.std.specs.Int.{next_multiple_of}
+use Rattle.std.proofs.Common.{sym, ap, ap₂, ◌∙◌, arith, append_assoc, length-append, length-drop, length-take-le, drop-drop, take_at}
+use Rattle.std.proofs.lemmas.List.{length-replicate, drop_at}
+use Rattle.std.proofs.lemmas.List.Edits.{sets-eq}
+use borrow.Rule.Slice.PartMut.{put_mid}
 use Rattle.text.specs.Limits.{record_bytes}
 use Rattle.text.specs.ListText.{fill}
 use Rattle.lines.specs.Numbers.{blank}
 use Rattle.lines.specs.Printed.{filled}
 use Rattle.lines.specs.Splitting.{line_most}
 use Rattle.lines.specs.Meaning.{Puts}
-use Rattle.lines.specs.Laws.PrintedLaws.{puts_then}
 
--- n bytes and their fill
-unfoldable pub filled_length : ℕ → ℕ
-filled_length n = n + (record_bytes - n % record_bytes) % record_bytes
-
-pub record_end_lem : (n : ℕ) → n ≤ line_most → (n + 72 - 1) / 72 * 72 ≡ filled_length n
-unfolding filled_length
-record_end_lem n l = omega arith
-
-pub filled-most : (n : ℕ) → n ≤ line_most → filled_length n ≤ 3 * record_bytes
-unfolding filled_length
+pub filled-most : (n : ℕ) → n ≤ line_most → next_multiple_of n record_bytes ≤ 3 * record_bytes
 filled-most n l = omega arith
 
-pub filled-length : (s : List ℕ) → length (filled s) ≡ filled_length (length s)
-unfolding filled_length
+pub filled-length : (s : List ℕ) → length (filled s) ≡ next_multiple_of (length s) record_bytes
 filled-length s = length-append s (fill (length s)) ∙ ap (λ (k : ℕ). length s + k) (length-replicate ((record_bytes - length s % record_bytes) % record_bytes) blank)
 
--- which byte it is where nothing stands does not matter within the bytes
-pub in_range : (s : List ℕ) (i c d : ℕ) → i < length s → get_or s i c ≡ get_or s i d
-in_range [] i c d h = absurd (omega arith)
-in_range (x ∷ s) zero c d h = refl
-in_range (x ∷ s) (suc i) c d h = in_range s i c d (omega arith)
+-- the text, and behind it blanks up to the end of its last record
+module _ (s old a b : List ℕ) (end : ℕ) (e : end ≡ next_multiple_of (length s) record_bytes) (l : end ≤ length old) (f : a ≡ s)
+    (g : b ≡ replicate (length (take (end - length s) (drop (length s) (a ++ drop (length s) old)))) blank) where
+  behind : drop (length s) (a ++ drop (length s) old) ≡ drop (length s) old
+  behind = drop_at a (drop (length s) old) (length s) (ap length f)
 
--- behind the text stand blanks
-padded : (s : List ℕ) (k i : ℕ) → i < length s + k → get_or (s ++ replicate k blank) i 0 ≡ get_or s i blank
-padded [] k i h = get_or-replicate k i blank 0 (omega arith)
-padded (x ∷ s) k zero h = refl
-padded (x ∷ s) k (suc i) h = padded s k i (omega arith)
+  blanks : b ≡ fill (length s)
+  blanks =
+      let k : length (take (end - length s) (drop (length s) old)) ≡ (record_bytes - length s % record_bytes) % record_bytes =
+      length-take-le (end - length s) (drop (length s) old) (omega (arith, e, length-drop (length s) old)) ∙ omega (arith, e) in
+      g ∙ ap (λ (u : List ℕ). replicate (length (take (end - length s) u)) blank) behind ∙ ap (λ (j : ℕ). replicate j blank) k
 
--- nothing needs no fill
-pub fills_nothing_lem : (line l : List ℕ) (at : ℕ) → length line ≤ at → Puts (filled (drop at line)) 0 l 0 l
-fills_nothing_lem line l at h = rw (drop_of_length-le line h) (record { place = refl; bytes = refl })
+  rest : drop (end - length s) (drop (length s) (a ++ drop (length s) old)) ≡ drop (0 + length (filled s)) old
+  rest =
+      let k : length s + (end - length s) ≡ 0 + length (filled s) = omega (arith, e, filled-length s) in
+      ap (drop (end - length s)) behind ∙ drop-drop (end - length s) (length s) old ∙ ap (λ (j : ℕ). drop j old) k
 
--- i bytes have been stored
-module _ (line l m : List ℕ) (at i x : ℕ) (h : i < filled_length (length line - at)) (p : Puts (take i (filled (drop at line))) 0 l i m) (e : x ≡ get_or line (at + i) blank) where
-  n : length (drop at line) ≡ length line - at
-  n = length-drop at line
-
-  byte : get_or (filled (drop at line)) i 0 ≡ x
-  unfolding filled_length
-  byte =
-      let k : i < filled_length (length (drop at line)) = rw n h in
-      padded (drop at line) ((record_bytes - length (drop at line) % record_bytes) % record_bytes) i k ∙ get_or-drop at line i blank ∙ sym e
-
-  pub fills_one : Puts (take (i + 1) (filled (drop at line))) 0 l (i + 1) (set m i x)
-  fills_one =
-      rw (add-one i, take-suc (filled (drop at line)) i 0 (rw (filled-length (drop at line), n) h), byte)
-      (puts_then (take i (filled (drop at line))) (x ∷ []) p (record { place = omega arith; bytes = refl }))
-
-pub fills_all : (line l m : List ℕ) (at i end : ℕ) → end ≡ filled_length (length line - at) → i ≡ end → Puts (take i (filled (drop at line))) 0 l i m → Puts (filled (drop at line)) 0 l end m
-fills_all line l m at i end e q p =
-    let k : i ≡ length (filled (drop at line)) = q ∙ e ∙ sym (filled-length (drop at line) ∙ ap filled_length (length-drop at line)) in
-    let t : take i (filled (drop at line)) ≡ filled (drop at line) = ap (λ (j : ℕ). take j (filled (drop at line))) k ∙ take-length (filled (drop at line)) in
-    rw (sym q, sym t) p
+  pub fills_lem : Puts (filled s) 0 old end (put_mid (length s) (end - length s) (a ++ drop (length s) old) b)
+  fills_lem = record {
+    place = omega (arith, e, filled-length s);
+    bytes =
+        ap₂ (λ (u v : List ℕ). u ++ (b ++ v)) (take_at a (drop (length s) old) (length s) (ap length f) ∙ f) rest
+        ∙ sym (append_assoc s b (drop (0 + length (filled s)) old))
+        ∙ ap (λ (u : List ℕ). s ++ u ++ drop (0 + length (filled s)) old) blanks
+        ∙ sym (sets-eq (filled s) old 0 (omega (arith, e, filled-length s)));
+  }

@@ -1,10 +1,10 @@
 -- The number that the code gives is the first of the bytes from its place on, and takes some of them.
-use Rattle.std.specs.Prelude.{ℕ, ◌+◌, ◌-◌, ◌*◌, ◌<◌, ◌≤◌, ◌≡◌, refl, List, [], ◌∷◌, Bool, true, false, cond, eqb, ltb, length, drop, get_or}
-use Rattle.std.proofs.Common.{sym, ap, subst, ◌∙◌, add-one, arith, ltb-true, length-drop, drop-drop}
+use Rattle.std.specs.Prelude.{ℕ, ◌+◌, ◌-◌, ◌*◌, ◌<◌, ◌≤◌, ◌≡◌, refl, List, [], ◌∷◌, Some, None, IsSome, leb, Bool, true, false, cond, eqb, ltb, length, drop, get_or}
+use Rattle.std.proofs.Common.{rules, leb-true, leb-false, sym, ap, subst, ◌∙◌, add-one, arith, ltb-true, length-drop, drop-drop}
 use Rattle.groups.specs.Groups.{numbers_end}
 use Rattle.groups.specs.Reading.{Token, num, bad, more, tokens}
-use Rattle.numbers.specs.Numbers.{first, number_in}
-use Rattle.numbers.specs.Laws.RaisedLaws.{tokens-last}
+use Rattle.numbers.specs.Numbers.{first, ending, ended, number_in}
+use Rattle.numbers.specs.Laws.RaisedLaws.{none_here, tokens-last}
 use Rattle.numbers.specs.Numbered.{Numbered, Unnumbered}
 use Rattle.numbers.specs.declared.Number.{Number}
 
@@ -87,22 +87,38 @@ module _ (s : List ℕ) (i : ℕ) where
   pub one-numbered : i < length s → get_or s i 0 < 128 → Numbered s i (get_or s i 0) (i + 1)
   one-numbered l h = at_place (get_or s i 0) 1 (tokens (drop (i + 1) s)) (tokens-last s i l h)
 
-  numbered_by : (ts : List Token) → tokens (drop i s) ≡ ts → ((first i ts).end ≡ 0 → ⊥) →
-      Numbered s i (first i ts).value (first i ts).end
-  numbered_by [] p n = absurd (n refl)
-  numbered_by (bad ∷ ts) p n = absurd (n refl)
-  numbered_by (num v k ∷ ts) p n = at_place v k ts p
+  numbered_by : {n : Number} (ts : List Token) → tokens (drop i s) ≡ ts → Some n ≡ first i ts → Numbered s i n.value n.end
+  numbered_by [] p e = absurd (cc)
+  numbered_by (bad ∷ ts) p e = absurd (cc)
+  numbered_by {n} (num v k ∷ ts) p e =
+      let is : n ≡ record { value = v; end = i + k } = cc in
+      subst (λ (m : Number). Numbered s i m.value m.end) (sym is) (at_place v k ts p)
 
-  unnumbered_by : (ts : List Token) → tokens (drop i s) ≡ ts → (first i ts).end ≡ 0 → Unnumbered ts
-  unnumbered_by [] p z v k us e = let no : ◌≡◌ {A = ℕ} 0 1 = cc in omega arith
-  unnumbered_by (bad ∷ ts) p z v k us e = let no : ◌≡◌ {A = ℕ} 0 1 = cc in omega arith
-  unnumbered_by (num w m ∷ ts) p z v k us e = omega (arith, (at_place w m ts p).on)
+  pub numbered : {n : Number} → Some n ≡ number_in s i → Numbered s i n.value n.end
+  numbered e = numbered_by (tokens (drop i s)) refl e
 
-  module _ {n : Number} (e : n ≡ number_in s i) where
-    pub numbered : (n.end ≡ 0 → ⊥) → Numbered s i n.value n.end
-    numbered some =
-        subst (λ (m : Number). Numbered s i m.value m.end) (sym e)
-        (numbered_by (tokens (drop i s)) refl (λ z. some (ap (λ (m : Number). m.end) e ∙ z)))
+  unnumbered_by : (ts : List Token) → None ≡ first i ts → Unnumbered ts
+  unnumbered_by [] z v k us e = absurd (cc)
+  unnumbered_by (bad ∷ ts) z v k us e = absurd (cc)
+  unnumbered_by (num w m ∷ ts) z v k us e = absurd (cc)
 
-    pub unnumbered : n.end ≡ 0 → Unnumbered (tokens (drop i s))
-    unnumbered z = unnumbered_by (tokens (drop i s)) refl (sym (ap (λ (m : Number). m.end) e) ∙ z)
+  pub unnumbered : None ≡ number_in s i → Unnumbered (tokens (drop i s))
+  unnumbered z = unnumbered_by (tokens (drop i s)) z
+
+-- ---- a number that is known to be there
+pub ended_some : (v w j : ℕ) → IsSome (ended v w j) → ended v w j ≡ ending v j
+ended_some v w j = by (eqb w 0) (ltb v numbers_end)
+  where
+    by : (x y : Bool) → IsSome (cond x None (cond y (ending v j) None)) → cond x None (cond y (ending v j) None) ≡ ending v j
+    by true y h = absurd (search (rules, h))
+    by false true h = refl
+    by false false h = absurd (search (rules, h))
+
+pub there_inside : (s : List ℕ) (i : ℕ) → IsSome (number_in s i) → i < length s
+there_inside s i h = by (leb (length s) i) refl
+  where
+    by : (x : Bool) → leb (length s) i ≡ x → i < length s
+    by true e =
+        let none = none_here s i (leb-true (length s) i e) in
+        absurd (search (rules, rw (← none) at h))
+    by false e = leb-false (length s) i e

@@ -1,9 +1,9 @@
 -- A paste appends, and one group after the other makes a paste.
-use Rattle.std.specs.Prelude.{ℕ, suc, ◌+◌, ◌/◌, ◌%◌, ◌<◌, ◌≤◌, ◌≡◌, refl, List, [], ◌∷◌, ◌++◌, length, take, drop, set}
+use Rattle.std.specs.Prelude.{ℕ, suc, ◌+◌, ◌/◌, ◌%◌, ◌<◌, ◌≤◌, ◌≡◌, List, [], ◌∷◌, ◌++◌, length, take, drop, set}
 use Rattle.std.proofs.Common.{sym, ap, ◌∙◌, append_assoc, add-one, le_refl, arith, length-set, take-suc-set, drop-set-lt}
 use Rattle.std.proofs.Math.Seq.{paste-zero, take-length}
 use Rattle.std.proofs.lemmas.List.Edits.{take-paste, drop-paste, length-paste}
-use Rattle.groups.specs.Groups.{numbers_end, number}
+use Rattle.groups.specs.Groups.{number}
 use Rattle.groups.specs.Laws.NumberLaws.{number-one, number_more}
 use Rattle.numbers.specs.Putting.{pasted, Appended, Left}
 
@@ -34,9 +34,6 @@ paste-last : (old : List ℕ) (at b : ℕ) → at < length old → set old at b 
 paste-last old at b l = paste-zero (set old at b) (at + 1) [] ∙ paste-cons old at b [] l
 
 -- ---- a number group by group
-pub left-all : (old : List ℕ) (at v : ℕ) → v < numbers_end → Left old at v old at v
-left-all old at v l = record { whole = refl; ends = refl; room = refl; small = l }
-
 module _ {old new : List ℕ} {at v i left : ℕ} (l : Left old at v new i left) (fits : at + length (number v) ≤ length old) where
   module _ (h : 128 ≤ left) where
     groups : number left ≡ (128 + left % 128) ∷ number (left / 128)

@@ -1,12 +1,12 @@
 -- A number group by group, the low one first: what is below a group goes along as a sum and a scale.
-use Rattle.std.specs.Prelude.{ℕ, ◌+◌, ◌-◌, ◌*◌, ◌<◌, ◌≤◌, ◌≡◌, refl, List, [], ◌∷◌, Bool, true, false, cond, eqb, ltb, length, drop, get_or}
+use Rattle.std.specs.Prelude.{ℕ, ◌+◌, ◌-◌, ◌*◌, ◌<◌, ◌≤◌, ◌≡◌, refl, List, [], ◌∷◌, None, Bool, true, false, cond, eqb, ltb, length, drop, get_or}
 use Rattle.std.proofs.Common.{sym, ◌∙◌, add-one, mul-add, mul_assoc, mul-le-mul_left, mul-le-mul_right, arith, le-ltb, ltb-false, ne_eqb, drop_of_length-le, drop-cons}
 use Rattle.std.proofs.Math.Path.{ap}
 use Rattle.std.proofs.lemmas.Bool.{eqb-false}
 use Rattle.groups.specs.Groups.{numbers_end}
 use Rattle.groups.specs.Reading.{Token, num, bad, more, tokens}
 use Rattle.groups.specs.Laws.NumberLaws as groups
-use Rattle.numbers.specs.Numbers.{none, ending, first, number_in, raised}
+use Rattle.numbers.specs.Numbers.{ending, first, number_in, raised}
 
 -- ---- a group before a number
 module _ (low scale i g : ℕ) (ts : List Token) (some : 1 ≤ scale) where
@@ -22,17 +22,17 @@ module _ (low scale i g : ℕ) (ts : List Token) (some : 1 ≤ scale) where
 
     raised_by : (x y : Bool) → eqb w 0 ≡ x → ltb sum numbers_end ≡ y →
         raised low scale i (cond x (bad ∷ ts) (cond y (num sum (k + 1) ∷ ts) (bad ∷ ts))) ≡
-        cond x none (cond (ltb (low + scale * g + scale * 128 * w) numbers_end)
-        (ending (low + scale * g + scale * 128 * w) (i + 1 + k)) none)
+        cond x None (cond (ltb (low + scale * g + scale * 128 * w) numbers_end)
+        (ending (low + scale * g + scale * 128 * w) (i + 1 + k)) None)
     raised_by true y p q = refl
     raised_by false false p q = rw (le-ltb _ _ (over (ltb-false sum numbers_end q)))
     raised_by false true p q =
         let n : sum ≡ 0 → ⊥ = λ z. eqb-false w 0 p (omega (arith, z)) in
         let end : i + (k + 1) ≡ i + 1 + k = omega arith in
         rw (ne_eqb sum 0 n)
-        (ap (λ (v : ℕ). cond (ltb v numbers_end) (ending v (i + (k + 1))) none) same ∙
+        (ap (λ (v : ℕ). cond (ltb v numbers_end) (ending v (i + (k + 1))) None) same ∙
         ap (λ (j : ℕ). cond (ltb (low + scale * g + scale * 128 * w) numbers_end)
-        (ending (low + scale * g + scale * 128 * w) j) none) end)
+        (ending (low + scale * g + scale * 128 * w) j) None) end)
 
 pub raised-more : (low scale i g : ℕ) (ts : List Token) → 1 ≤ scale →
     raised low scale i (more g ts) ≡ raised (low + scale * g) (scale * 128) (i + 1) ts
@@ -43,7 +43,7 @@ raised-more low scale i g (num w k ∷ ts) some =
 
 first_by : (i g w k : ℕ) (ts : List Token) (x y : Bool) →
     first i (cond x (bad ∷ ts) (cond y (num (g + 128 * w) (k + 1) ∷ ts) (bad ∷ ts))) ≡
-    cond x none (cond y (ending (g + 128 * w) (i + 1 + k)) none)
+    cond x None (cond y (ending (g + 128 * w) (i + 1 + k)) None)
 first_by i g w k ts true y = refl
 first_by i g w k ts false false = refl
 first_by i g w k ts false true =
@@ -57,7 +57,7 @@ first_more i g (num w k ∷ ts) = first_by i g w k ts (eqb w 0) (ltb (g + 128 * 
 
 -- ---- a number above a scale of 2^33 or more
 none_by : (low scale w j : ℕ) (x : Bool) → eqb w 0 ≡ x → numbers_end ≤ scale →
-    cond x none (cond (ltb (low + scale * w) numbers_end) (ending (low + scale * w) j) none) ≡ none
+    cond x None (cond (ltb (low + scale * w) numbers_end) (ending (low + scale * w) j) None) ≡ None
 none_by low scale w j true p h = refl
 none_by low scale w j false p h =
     let n = eqb-false w 0 p in
@@ -65,7 +65,7 @@ none_by low scale w j false p h =
     let large : numbers_end ≤ low + scale * w = omega (arith, mul-le-mul_left scale some) in
     rw (le-ltb (low + scale * w) numbers_end large)
 
-pub raised-none : (low scale i : ℕ) (ts : List Token) → numbers_end ≤ scale → raised low scale i ts ≡ none
+pub raised-none : (low scale i : ℕ) (ts : List Token) → numbers_end ≤ scale → raised low scale i ts ≡ None
 raised-none low scale i [] h = refl
 raised-none low scale i (bad ∷ ts) h = refl
 raised-none low scale i (num w k ∷ ts) h = none_by low scale w (i + k) (eqb w 0) refl h
@@ -91,7 +91,7 @@ module _ (s : List ℕ) (i : ℕ) where
   pub tokens-more : i < length s → 128 ≤ b → b < 256 → tokens (drop i s) ≡ more (b - 128) behind
   tokens-more l h f = tokens-here l ∙ groups.tokens-more b (drop (i + 1) s) h f
 
-  pub none_here : length s ≤ i → none ≡ number_in s i
+  pub none_here : length s ≤ i → None ≡ number_in s i
   none_here l = sym (ap (first i) (tokens_out l))
 
   pub one-here : i < length s → b < 128 → ending b (i + 1) ≡ number_in s i

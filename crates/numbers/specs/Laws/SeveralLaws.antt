@@ -1,15 +1,15 @@
 -- What is added up over the bytes from a place on is the number that begins there: by the place of its last group.
-use Rattle.std.specs.Prelude.{ℕ, ◌+◌, ◌-◌, ◌*◌, ◌%◌, ◌<◌, ◌≤◌, ◌≡◌, refl, Bool, true, false, cond, List, eqb, ltb, leb, length, drop, get_or}
+use Rattle.std.specs.Prelude.{ℕ, ◌+◌, ◌-◌, ◌*◌, ◌%◌, ◌<◌, ◌≤◌, ◌≡◌, refl, Option, None, Bool, true, false, cond, List, eqb, ltb, leb, length, drop, get_or}
 use Rattle.std.proofs.Common.{sym, ap, ◌∙◌, mul-le-mul_right, arith, le-ltb, leb-true, leb-false}
 use Rattle.std.proofs.Math.ListN.{get_or-eq_default}
 use Rattle.groups.specs.Groups.{numbers_end}
 use Rattle.groups.specs.Reading.{tokens}
-use Rattle.numbers.specs.Numbers.{none, ending, ended, raised, number_in}
+use Rattle.numbers.specs.Numbers.{ending, ended, raised, number_in}
 use Rattle.numbers.specs.Several.{has_third, has_fourth, has_fifth, last_at, sum_of, sum}
 use Rattle.numbers.specs.declared.Number.{Number}
 use Rattle.numbers.specs.Laws.RaisedLaws.{raised-more, raised-none, tokens_out, tokens-last, tokens-more, more-here}
 
-ended-none : (v j : ℕ) (x : Bool) → numbers_end ≤ v → cond x none (cond (ltb v numbers_end) (ending v j) none) ≡ none
+ended-none : (v j : ℕ) (x : Bool) → numbers_end ≤ v → cond x None (cond (ltb v numbers_end) (ending v j) None) ≡ None
 ended-none v j true h = refl
 ended-none v j false h = rw (le-ltb v numbers_end h)
 
@@ -168,16 +168,17 @@ module _ (s : List ℕ) (fits : (j : ℕ) → get_or s j 0 < 256) where
           (sum_by 0 0 0 (omega arith) (omega (arith, fits (i + 2))) (omega (arith, fits (i + 2), fits (i + 3)))
           ∙ omega (arith, top_off i h))
 
-      pub several_is : (b₁ b₂ b₃ b₄ w : ℕ) → b₁ ≡ get_or s (i + 1) 0 → b₂ ≡ get_or s (i + 2) 0 → b₃ ≡ get_or s (i + 3) 0 →
+      pub several_is : (b₀ b₁ b₂ b₃ b₄ w : ℕ) → b₀ ≡ get_or s i 0 → b₁ ≡ get_or s (i + 1) 0 → b₂ ≡ get_or s (i + 2) 0 → b₃ ≡ get_or s (i + 3) 0 →
           b₄ ≡ get_or s (i + 4) 0 → w ≡ get_or s (last_at i b₁ b₂ b₃) 0 →
-          ended (sum (get_or s i 0) b₁ b₂ b₃ b₄) w (last_at i b₁ b₂ b₃ + 1) ≡ number_in s i
-      several_is b₁ b₂ b₃ b₄ w e₁ e₂ e₃ e₄ e =
-          ap (λ (x : ℕ). ended (sum (get_or s i 0) b₁ b₂ b₃ b₄) x (last_at i b₁ b₂ b₃ + 1)) e
+          ended (sum b₀ b₁ b₂ b₃ b₄) w (last_at i b₁ b₂ b₃ + 1) ≡ number_in s i
+      several_is b₀ b₁ b₂ b₃ b₄ w e₀ e₁ e₂ e₃ e₄ e =
+          ap (λ (x : ℕ). ended (sum x b₁ b₂ b₃ b₄) w (last_at i b₁ b₂ b₃ + 1)) e₀
+          ∙ ap (λ (x : ℕ). ended (sum (get_or s i 0) b₁ b₂ b₃ b₄) x (last_at i b₁ b₂ b₃ + 1)) e
           ∙ ap (λ (x : ℕ). of x b₂ b₃ b₄) e₁
           ∙ ap (λ (x : ℕ). of (get_or s (i + 1) 0) x b₃ b₄) e₂
           ∙ ap (λ (x : ℕ). of (get_or s (i + 1) 0) (get_or s (i + 2) 0) x b₄) e₃
           ∙ ap (of (get_or s (i + 1) 0) (get_or s (i + 2) 0) (get_or s (i + 3) 0)) e₄
           ∙ two-more (more-here s i (within i h) h (fits i)) (leb 128 (get_or s (i + 1) 0)) refl
         where
-          of : ℕ → ℕ → ℕ → ℕ → Number
+          of : ℕ → ℕ → ℕ → ℕ → Option Number
           of x y z u = ended (sum (get_or s i 0) x y z u) (get_or s (last_at i x y z) 0) (last_at i x y z + 1)

@@ -37,12 +37,12 @@ unfolding numeral
 one-digit v l = rw (lt-ltb v 8 l)
 
 -- as the machine counts the bits above the highest, of v or of v + 1, whichever is odd
-pub digits_by_bit : (v : ℕ) → v < atoms_end → ((31 - count_leading_zeros 32 (v / 2 * 2 + 1)) / 3 + 1 ≡ length (numeral v)) × (length (numeral v) ≤ digits_most)
+pub digits_by_bit : (v : ℕ) → v < atoms_end → ((34 - count_leading_zeros 32 (v / 2 * 2 + 1)) / 3 ≡ length (numeral v)) × (length (numeral v) ≤ digits_most)
 unfolding numeral
 digits_by_bit v l = go (leading_top 32 (v / 2 * 2 + 1) (omega arith) (omega arith))
   where
     go : (j : ℕ) × (count_leading_zeros 32 (v / 2 * 2 + 1) + suc j ≡ 32) × (2 ^ j ≤ v / 2 * 2 + 1) × (v / 2 * 2 + 1 < 2 ^ suc j)
-        → ((31 - count_leading_zeros 32 (v / 2 * 2 + 1)) / 3 + 1 ≡ length (numeral v)) × (length (numeral v) ≤ digits_most)
+        → ((34 - count_leading_zeros 32 (v / 2 * 2 + 1)) / 3 ≡ length (numeral v)) × (length (numeral v) ≤ digits_most)
     go (zero, e, lo, hi) = let q = ap length (one-digit v (omega arith)) in (omega arith, omega arith)
     go (suc i, e, lo, hi) = let q = by_bit 10 v (suc i) (under v l) (omega (arith, pow-add 2 1 i)) (omega arith) in (omega arith, omega arith)
 

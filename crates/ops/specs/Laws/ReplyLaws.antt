@@ -1,36 +1,34 @@
 -- What a reply tells of its operation: done or refused, and what it leaves.
-use Rattle.std.specs.Prelude.{◌≡◌, refl, Bool, true, false, cond, ℕ, ◌<◌, eqb}
-use Rattle.std.proofs.Common.{arith}
-use package.borrow.Author.Tests.{eqb-true, eqb-false}
+use Rattle.std.specs.Prelude.{◌≡◌, refl, Bool, true, false, cond, ℕ, eqb, Ok, Err}
+use Rattle.std.proofs.Common.{eqb-true}
 use Rattle.answers.specs.Answers.{DONE}
-use Rattle.ops.specs.declared.Reply.TheVariants.{Done, Refused}
-use Rattle.ops.specs.Replies.{said, reply}
+use Rattle.answers.specs.Operations.{kind_told, value_told}
+use Rattle.answers.specs.Refusals.{refusal_no}
+use Rattle.answers.specs.declared.refusal.Refusal.{Refusal}
+use Rattle.answers.specs.declared.told.Told.{Told}
+use Rattle.ops.specs.Replies.{said, reply, numbers}
 use Rattle.pool.specs.Pool.{Pool}
 use Rattle.pool.specs.Script.{Operation, refusal, effect}
 
-pub record Did (p : Pool) (o : Operation) (k w : ℕ) : Type 0 where
+pub record Did (p : Pool) (o : Operation) (x : Told) : Type 0 where
   pub done : refusal p o ≡ DONE
-  pub kind : k ≡ (effect p o).kind
-  pub value : w ≡ (effect p o).value
+  pub kind : kind_told x ≡ (effect p o).kind
+  pub value : value_told x ≡ (effect p o).value
 
-pub did : (p : Pool) (o : Operation) (k w : ℕ) → Done k w ≡ reply p o → Did p o k w
+pub did : (p : Pool) (o : Operation) (x : Told) → numbers (Ok x) ≡ reply p o → Did p o x
 unfolding reply
-did p o k w e = go (eqb (refusal p o) DONE) refl e
+did p o x e = go (eqb (refusal p o) DONE) refl e
   where
-    go : (b : Bool) → eqb (refusal p o) DONE ≡ b → Done k w ≡ cond b (said (effect p o)) (Refused (refusal p o)) → Did p o k w
-    go true q h = record { done = eqb-true (refusal p o) DONE q; kind = cc; value = cc }
-    go false q h =
-        let z : ◌≡◌ {A = ℕ} 0 1 = cc in
-        absurd (omega arith)
+    go : (b : Bool) → eqb (refusal p o) DONE ≡ b → numbers (Ok x) ≡ cond b (said (effect p o)) (Err (refusal p o)) → Did p o x
+    go true q h =
+        let z : ◌≡◌ {A = ℕ × ℕ} (kind_told x, value_told x) ((effect p o).kind, (effect p o).value) = cc in
+        record { done = eqb-true (refusal p o) DONE q; kind = λ i. (z i).0; value = λ i. (z i).1 }
+    go false q h = cc
 
-pub stopped : (p : Pool) (o : Operation) (k : ℕ) → Refused k ≡ reply p o → (refusal p o ≡ k) × (DONE < k)
+pub stopped : (p : Pool) (o : Operation) (k : Refusal) → numbers (Err k) ≡ reply p o → refusal p o ≡ refusal_no k
 unfolding reply
 stopped p o k e = go (eqb (refusal p o) DONE) refl e
   where
-    go : (b : Bool) → eqb (refusal p o) DONE ≡ b → Refused k ≡ cond b (said (effect p o)) (Refused (refusal p o)) → (refusal p o ≡ k) × (DONE < k)
-    go true q h =
-        let z : ◌≡◌ {A = ℕ} 0 1 = cc in
-        absurd (omega arith)
-    go false q h =
-        let s : refusal p o ≡ k = cc in
-        (s, omega (arith, eqb-false (refusal p o) DONE q))
+    go : (b : Bool) → eqb (refusal p o) DONE ≡ b → numbers (Err k) ≡ cond b (said (effect p o)) (Err (refusal p o)) → refusal p o ≡ refusal_no k
+    go true q h = cc
+    go false q h = cc

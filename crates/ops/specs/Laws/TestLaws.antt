@@ -1,17 +1,18 @@
 -- What the tests 9 to 12 come to, over their shape: the first that holds is the refusal, and where none does the operation is done.
-use Rattle.std.specs.Prelude.{◌≡◌, ◌≢◌, Bool, not, ℕ, eqb, ltb}
-use Rattle.std.proofs.Math.Path.{refl}
-use Rattle.std.proofs.Common.{sym, ◌∙◌, arith}
-use Rattle.std.proofs.Math.Bool.{true, false, cond}
+use Rattle.std.specs.Prelude.{◌≡◌, refl, ◌≢◌, Bool, true, false, cond, not, ℕ, eqb, ltb}
+use Rattle.std.proofs.Common.{sym, ◌∙◌, arith, eq-eqb, ne_eqb, eqb-true, lt-ltb, le-ltb}
 use Rattle.std.proofs.Math.Decide.{ℕ_discrete}
-use package.borrow.Author.Tests.{eq-eqb, ne_eqb, eqb-true, eqb-false, lt-ltb, le-ltb, not-false}
+use Rattle.std.proofs.lemmas.Bool.{eqb-false, not-false}
 use Rattle.answers.specs.Answers.{DONE, NULL, OCCUPIED, SHARED, NO_ROOM}
+use Rattle.answers.specs.Laws.Refusals.{refusal_some}
+use Rattle.answers.specs.Refusals.{refusal_no}
+use Rattle.answers.specs.declared.refusal.Refusal.{Refusal}
 use Rattle.ops.specs.Tests.{parting}
 use Rattle.pool.specs.Pool.{Pool, holder, frees, Sound}
 use Rattle.pool.specs.Script.{Operation, null_list, occupied, shared_cells, needed, lacks_room, refusal}
 use Rattle.pool.specs.Laws.ScriptLaws.{Opened, not_refused, none_free, free_some}
 
-module _ (p : Pool) (o : Operation) (h : Opened p o) where
+module _ {p : Pool} {o : Operation} (h : Opened p o) where
   pub says-null : null_list p o ≡ true → refusal p o ≡ NULL
   unfolding refusal
   says-null e = rw (h.coded, h.within, h.apart, e) refl
@@ -43,23 +44,23 @@ pub record Parts (p : Pool) (a b : ℕ) : Type 0 where
   pub filled : holder p a ≢ 0
   pub vacant : holder p b ≡ 0
 
-pub parts : (p : Pool) (a b : ℕ) → parting p a b ≡ DONE → Parts p a b
+pub parts : {p : Pool} {a b : ℕ} → parting p a b ≡ DONE → Parts p a b
 unfolding parting
-parts p a b e =
+parts {p} {a} {b} e =
     let (filled, e10) = not_refused (eqb (holder p a) 0) NULL _ (omega arith) e in
     let (vacant, e11) = not_refused (not (eqb (holder p b) 0)) OCCUPIED DONE (omega arith) e10 in
     record { filled = eqb-false (holder p a) 0 filled; vacant = eqb-true (holder p b) 0 (not-false _ vacant) }
 
-module _ (p : Pool) (o : Operation) (h : Opened p o) (nulls : null_list p o ≡ eqb (holder p o.a) 0)
+module _ {p : Pool} {o : Operation} (h : Opened p o) (nulls : null_list p o ≡ eqb (holder p o.a) 0)
     (fills : occupied p o ≡ not (eqb (holder p o.b) 0)) where
-  pub says-parting : parting p o.a o.b ≢ DONE → refusal p o ≡ parting p o.a o.b
+  pub says-parting : (k : Refusal) → refusal_no k ≡ parting p o.a o.b → refusal p o ≡ refusal_no k
   unfolding parting
-  says-parting n = go (eqb (holder p o.a) 0) (not (eqb (holder p o.b) 0)) nulls fills n
+  says-parting k n = go (eqb (holder p o.a) 0) (not (eqb (holder p o.b) 0)) nulls fills n
     where
-      go : (x y : Bool) → null_list p o ≡ x → occupied p o ≡ y → cond x NULL (cond y OCCUPIED DONE) ≢ DONE → refusal p o ≡ cond x NULL (cond y OCCUPIED DONE)
-      go true y e f m = says-null p o h e
-      go false true e f m = says-occupied p o h e f
-      go false false e f m = absurd (m refl)
+      go : (x y : Bool) → null_list p o ≡ x → occupied p o ≡ y → refusal_no k ≡ cond x NULL (cond y OCCUPIED DONE) → refusal p o ≡ refusal_no k
+      go true y e f m = says-null h e ∙ sym m
+      go false true e f m = says-occupied h e f ∙ sym m
+      go false false e f m = absurd (refusal_some k m)
 
   -- past them the other two tests decide
   module _ (q : Parts p o.a o.b) where
@@ -70,10 +71,10 @@ module _ (p : Pool) (o : Operation) (h : Opened p o) (nulls : null_list p o ≡ 
     vacant = fills ∙ rw (eq-eqb (holder p o.b) 0 q.vacant) refl
 
     pub parting-shared : shared_cells p o ≡ true → refusal p o ≡ SHARED
-    parting-shared e = says-shared p o h filled vacant e
+    parting-shared e = says-shared h filled vacant e
 
     pub parting-done : shared_cells p o ≡ false → needed p o ≡ 0 → refusal p o ≡ DONE
-    parting-done own none = needs_none p o h filled vacant own none
+    parting-done own none = needs_none h filled vacant own none
 
 -- room for one cell
 pub one_free : (p : Pool) → Sound p → eqb p.free 0 ≡ ltb (frees p.cells) 1

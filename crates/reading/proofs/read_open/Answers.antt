@@ -1,35 +1,32 @@
 -- `reading::read_open` meets its contract.
-use borrow.Author.Tests.{not-false}
-use mathlib.Core.Path.{◌≡◌, sym, ◌∙◌}
-use Prim.Native.Nat.{◌<◌}
-use native.Mathlib.Omega.{arith}
-use Rattle.answers.specs.Answers.{DONE}
-use Rattle.groups.specs.Stored.{size_fault}
+use Rattle.std.specs.Prelude.{◌<◌}
+use Rattle.std.proofs.Common.{rules, ◌≡◌, refl, sym, Err, arith}
+use Rattle.std.proofs.lemmas.Bool.{not-false}
+use Rattle.answers.specs.Laws.Refusals.{refusal_some}
 use Rattle.reading.specs.Laws.ReadLaws.{no_holder_lem, wrong_size, not_sound, all-passed}
-use Rattle.reading.proofs.read_open.Goals.{Else-a-holders, Else-fault-ne-DONE}
+use Rattle.reading.proofs.read_open.Goals.{Else-a-holders}
 use Rattle.reading.proofs.read_open.Goals as goal
 
--- a holder of the table's, and a text of a right size
+-- a holder of the table's
 held : (c : Else-a-holders) →
     let a = c.args in
     a.h < a.s.holders
 held c = omega (arith, c.if-a-holders.false, c.holders.ensures)
 
-sized : (c : Else-fault-ne-DONE) →
-    size_fault c.args.b c.args.bytes.now ≡ DONE
-sized c = sym c.size_fault-fault.ensures ∙ c.if-fault-ne-DONE.false
-
 pub returns-then-a-holders : goal.returns-then-a-holders
 returns-then-a-holders c =
-    no_holder_lem _ _ _ _ c.requires (omega (arith, c.if-a-holders.true, c.holders.ensures)) c.refused.ensures
+    no_holder_lem _ _ _ _ c.requires (omega (arith, c.if-a-holders.true, c.holders.ensures)) refl
 
-pub returns-then-fault-ne-DONE : goal.returns-then-fault-ne-DONE
-returns-then-fault-ne-DONE c =
-    wrong_size _ _ _ _ c.requires (held (goal.at.returns-then-fault-ne-DONE c).Else-a-holders) c.size_fault-fault.ensures c.if-fault-ne-DONE.true c.refused-then-fault-ne-DONE.ensures
+pub returns-in_err-size_fault : goal.returns-in_err-size_fault
+returns-in_err-size_fault c =
+    let f = c.in_err-size_fault.field-0.0 in
+    let is : c.from_residual.result ≡ Err f = search rules in
+    rw is (wrong_size _ _ _ _ c.requires (held (goal.at.returns-in_err-size_fault c).Else-a-holders) c.in_err-size_fault.ensures (refusal_some f) refl)
 
 pub returns-then-not-found : goal.returns-then-not-found
 returns-then-not-found c =
-    not_sound _ _ _ _ c.requires (held (goal.at.returns-then-not-found c).Else-a-holders) (sized (goal.at.returns-then-not-found c).Else-fault-ne-DONE) c.examine-found.ensures.decided c.if-not-found.true c.refused-then-not-found.ensures
+    not_sound _ _ _ _ c.requires (held (goal.at.returns-then-not-found c).Else-a-holders) (sym c.in_ok-size_fault.ensures)
+    (rw (← c.new.ensures.shape, ← c.new.ensures.words) c.examine-found.ensures.decided) c.if-not-found.true refl
 
 pub into-requires : goal.into-requires
 into-requires c =
@@ -37,11 +34,12 @@ into-requires c =
     record {
       table = c.requires.table;
       h_bound = held (goal.at.into-requires c).Else-a-holders;
-      sound = found.decided.sound.0 (not-false _ c.if-not-found.false);
-      free_value = found.free;
-      bytes_value = sized (goal.at.into-requires c).Else-fault-ne-DONE;
+      sound = rw (← c.new.ensures.shape, ← c.new.ensures.words) (found.decided.sound.0 (not-false _ c.if-not-found.false));
+      free_value = rw (← c.new.ensures.shape, ← c.new.ensures.words) found.free;
+      bytes_value = sym c.in_ok-size_fault.ensures;
     }
 
 pub returns : goal.returns
 returns c =
-    all-passed _ _ _ _ c.requires (held (goal.at.returns c).Else-a-holders) (sized (goal.at.returns c).Else-fault-ne-DONE) c.examine-found.ensures.decided c.if-not-found.false (c.into.ensures _)
+    all-passed _ _ _ _ c.requires (held (goal.at.returns c).Else-a-holders) (sym c.in_ok-size_fault.ensures)
+    (rw (← c.new.ensures.shape, ← c.new.ensures.words) c.examine-found.ensures.decided) c.if-not-found.false (c.into.ensures _)

@@ -1,6 +1,7 @@
 -- What stands between two places of a text is read: a list begins, an atom and the ends of lists, or the ends of lists alone.
 use Rattle.std.specs.Prelude.{◌≡◌, refl, List, [], ◌∷◌, ℕ, suc, ◌-◌, ◌≤◌, ◌<◌, length, set}
 use Rattle.std.proofs.Common.{sym, ap, subst, ◌∙◌, arith, lt-ltb, le-ltb, length-set}
+use Rattle.building.specs.Hooks.{hook_cell}
 use Rattle.building.specs.Underway.{Coming, Comes, Steps, BeginsList, AddsAtom}
 use Rattle.building.specs.Laws.StepLaws.{and_then, comes_then, first_comes}
 use Rattle.building.specs.declared.hook.Hook.{Hook}
@@ -33,12 +34,12 @@ module _ {s : Shape} {ts : List ℕ} {h : ℕ} {k : Hook} {xs : List ℕ} {p q :
     pub list_comes : Comes (view s ts) h k (opened ∷ [])
     list_comes = first_comes (coming opens)
 
-    pub list_added : {us : List ℕ} {j : Hook} → BeginsList s h ts k us j → Added s ts h k xs p q v us j (set xs p.depth j.cell)
-    list_added {us} {j} b =
+    pub list_added : {us : List ℕ} {j : Hook} {c : ℕ} → c ≡ hook_cell j → BeginsList s h ts k us j → Added s ts h k xs p q v us j (set xs p.depth c)
+    list_added {us} {j} {c} e b =
         let one : suc p.depth ≡ q.depth = omega (arith, a.high) in
-        let top : j.cell ∷ stack xs p.depth ≡ stack (set xs p.depth j.cell) q.depth =
-        stack_push xs p.depth j.cell (omega (arith, a.top, a.long)) ∙ ap (stack (set xs p.depth j.cell)) one in
-        added opens (length-set xs p.depth j.cell)
+        let top : hook_cell j ∷ stack xs p.depth ≡ stack (set xs p.depth c) q.depth =
+        ap (λ (x : ℕ). x ∷ stack xs p.depth) (sym e) ∙ stack_push xs p.depth c (omega (arith, a.top, a.long)) ∙ ap (stack (set xs p.depth c)) one in
+        added opens (length-set xs p.depth c)
         (subst (Steps s h ts k (stack xs p.depth) (opened ∷ []) us j) top (b (stack xs p.depth)))
 
   module _ (down : q.depth ≤ p.depth) where

@@ -2,10 +2,10 @@
 use Rattle.std.specs.Prelude.{◌≡◌, List, [], ◌∷◌, ◌++◌, ℕ, ◌≤◌, ◌<◌, length, drop, get_or}
 use Rattle.std.proofs.Common.{sym}
 use Rattle.std.proofs.Math.Path.{subst}
-use Rattle.building.specs.Hooks.{hook_next}
 use Rattle.building.specs.Underway.{LeadsTo}
 use Rattle.building.specs.Laws.StepLaws.{starts}
 use Rattle.building.specs.declared.hook.Hook.{Hook}
+use Rattle.building.specs.Hooks.{hook_holder}
 use Rattle.lists.specs.Lst.{extent}
 use Rattle.pool.specs.Pool.{Pool, frees, Sound}
 use Rattle.scan.specs.Places.{opened, prospect_at, emitted}
@@ -23,7 +23,7 @@ use Rattle.reading.specs.Laws.AcceptingLaws.{first, goes_on_lem, marks-on}
 -- with a null in the array for the outermost list
 pub begins : {s : Shape} {ts : List ℕ} (h : ℕ) {text : List ℕ} → Taken text → Table s ts → Sound (view s ts)
     → extent (list_in text) ≤ frees (view s ts).cells → (xs : List ℕ) → length xs ≡ levels → get_or xs 0 0 ≡ 0
-    → Pass s ts h text ts (hook_next 0) xs opened
+    → Pass s ts h text ts hook_holder xs opened
 unfolding stack
 begins {s} {ts} h {text} taken t sound room xs long null =
     let f = first text taken in
@@ -33,7 +33,7 @@ begins {s} {ts} h {text} taken t sound room xs long null =
       table = t;
       long = long;
       place = f.place;
-      leads = subst (λ (c : ℕ). LeadsTo (view s ts) h (hook_next 0) (c ∷ []) (goal_of s ts h text) marks) (sym null)
+      leads = subst (λ (c : ℕ). LeadsTo (view s ts) h hook_holder (c ∷ []) (goal_of s ts h text) marks) (sym null)
           (starts (view s ts) h (list_in text) marks sound room f.left);
     }
 

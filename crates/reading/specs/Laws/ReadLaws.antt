@@ -4,7 +4,10 @@ use Rattle.std.proofs.Common.{sym, ap, ◌∙◌, subst, arith, eq-eqb, ne_eqb, 
 use Rattle.std.proofs.Math.Bool.{cond}
 use Rattle.std.proofs.lemmas.Bool.{lt-leb}
 use Rattle.answers.specs.Answers.{DONE, UNSOUND, HOLDER, OCCUPIED, NO_ROOM, refused, done, unless}
+use Rattle.answers.specs.Laws.Refusals.{refusal_some}
 use Rattle.answers.specs.Laws.Unless.{goes_on_lem, refuses}
+use Rattle.answers.specs.Refusals.{refusal_no}
+use Rattle.answers.specs.declared.refusal.Refusal.{Refusal}
 use Rattle.answers.specs.declared.Outcome.{Outcome}
 use Rattle.calls.specs.Entry.{work_words, entry_fault, Provided, no_holder, unsound, used}
 use Rattle.calls.specs.Read.{Read, not_read, read_into, reading_in}
@@ -14,7 +17,6 @@ use Rattle.lists.specs.Lst.{extent}
 use Rattle.sound.specs.Decided.{Decided}
 use Rattle.pool.specs.Operations.{read}
 use Rattle.pool.specs.Pool.{Pool, holder, frees}
-use Rattle.scan.specs.Outcomes.{saying}
 use Rattle.groups.specs.Stored.{size_fault, scanned, verdict, list_in}
 use Rattle.groups.specs.declared.Stored.{Stored}
 use Rattle.groups.specs.Laws.StoredLaws.{right-size}
@@ -25,7 +27,8 @@ use Rattle.table.specs.Laws.SizesLaws.{table_shape}
 use Rattle.table.specs.View.{holder_count, view, words, Table, Shows}
 use Rattle.table.proofs.WordsLaws.{shown-words}
 use Rattle.table.specs.declared.Shape.{Shape}
-use Rattle.text.specs.Text.{Answer}
+use Rattle.text.specs.Text as text
+use Rattle.text.specs.Text.{Answer, refusal}
 use Rattle.calls.specs.Promised.{Reads}
 
 -- what is read is the list of the form that was named
@@ -37,11 +40,10 @@ nothing : {x : Read} {r : Outcome} (k : ℕ) (ts vs : List ℕ) → x ≡ not_re
 nothing {x} {r} k ts vs e a = subst (Reads r ts vs) (sym e) (record { outcome = a; table = refl; work = refl })
 
 -- bytes of a right size, in the form b, are scanned for a null holder
-pub record Scans (b : Stored) (s : Shape) (ts : List ℕ) (h : ℕ) (xs : List ℕ) (c : Scanned) : Type 0 where
+pub record Scans (b : Stored) (s : Shape) (ts : List ℕ) (h : ℕ) (xs : List ℕ) : Type 0 where
   pub table : Table s ts
   pub sized : size_fault b xs ≡ DONE
   pub null : holder (view s ts) h ≡ 0
-  pub told : c ≡ saying (scanned b xs) (extent (list_in b xs))
 
 module _ (b : Stored) {s : Shape} {ts : List ℕ} (t : Table s ts) (h : ℕ) (xs ws : List ℕ) where
   -- what is asked, for the shape that the code has
@@ -60,39 +62,36 @@ module _ (b : Stored) {s : Shape} {ts : List ℕ} (t : Table s ts) (h : ℕ) (xs
   pub occupied : {r : Outcome} → holder (view s ts) h ≢ 0 → r ≡ refused OCCUPIED → Reads r ts (used s.form ts ws) (read_into s.form b ts ws h xs)
   occupied n a = nothing OCCUPIED ts (used s.form ts ws) (asked ∙ simp (ne_eqb (holder (view s ts) h) 0 n)) a
 
-module _ {b : Stored} {s : Shape} {ts : List ℕ} {h : ℕ} {xs : List ℕ} {c : Scanned} (k : Scans b s ts h xs c) where
-  as_scanned : scanned b xs ≡ verdict b xs
-  as_scanned = sym (right-size b xs k.sized)
+module _ {b : Stored} {s : Shape} {ts : List ℕ} {h : ℕ} {xs : List ℕ} (k : Scans b s ts h xs) where
+  judged_as : {a : Answer} → scanned b xs ≡ a → verdict b xs ≡ a
+  judged_as e = right-size b xs k.sized ∙ e
 
-  no : c.answer ≡ (verdict b xs).no
-  no = ap (λ (x : Scanned). x.answer) k.told ∙ ap (λ (a : Answer). a.no) as_scanned
+  pub faulty : (ws : List ℕ) (f : Refusal) {r : Outcome} → scanned b xs ≡ refusal (refusal_no f) → r ≡ refused (refusal_no f)
+      → Reads r ts (used s.form ts ws) (read_into s.form b ts ws h xs)
+  faulty ws f told a =
+      let no : (verdict b xs).no ≡ refusal_no f = ap (λ (v : Answer). v.no) (judged_as told) in
+      let some : (verdict b xs).no ≢ 0 = λ q. refusal_some f (sym no ∙ q) in
+      nothing (verdict b xs).no ts (used s.form ts ws) (asked b k.table h xs ws ∙ simp (eq-eqb (holder (view s ts) h) 0 k.null, ne_eqb (verdict b xs).no 0 some))
+      (a ∙ ap refused (sym no))
 
-  pub faulty : (ws : List ℕ) {r : Outcome} → c.answer ≢ 0 → r ≡ refused c.answer → Reads r ts (used s.form ts ws) (read_into s.form b ts ws h xs)
-  faulty ws n a =
-      let some : (verdict b xs).no ≢ 0 = λ q. n (no ∙ q) in
-      nothing (verdict b xs).no ts (used s.form ts ws) (asked b k.table h xs ws ∙ simp (eq-eqb (holder (view s ts) h) 0 k.null, ne_eqb (verdict b xs).no 0 some)) (a ∙ ap refused no)
-
-  module _ (well : c.answer ≡ 0) where
+  module _ (c : Scanned) (told : (scanned b xs ≡ text.done c.taken) × (c.extent ≡ extent (list_in b xs))) where
     pub good : (verdict b xs).no ≡ 0
-    good = sym no ∙ well
-
-    counts : c.extent ≡ extent (list_in b xs)
-    counts = ap (λ (x : Scanned). x.extent) k.told ∙ (let q = ap (λ (a : Answer). a.no) as_scanned ∙ good in simp (eq-eqb _ _ q))
+    good = ap (λ (v : Answer). v.no) (judged_as told.0)
 
     pub no_room : (ws : List ℕ) {r : Outcome} → frees (view s ts).cells < c.extent → r ≡ refused NO_ROOM → Reads r ts (used s.form ts ws) (read_into s.form b ts ws h xs)
     no_room ws l a =
-        let more : frees (view s ts).cells < extent (list_in b xs) = omega (arith, counts) in
+        let more : frees (view s ts).cells < extent (list_in b xs) = omega (arith, told.1) in
         nothing NO_ROOM ts (used s.form ts ws) (asked b k.table h xs ws ∙ simp (eq-eqb (holder (view s ts) h) 0 k.null, eq-eqb (verdict b xs).no 0 good, lt-ltb _ _ more)) a
 
     module _ (l : c.extent ≤ frees (view s ts).cells) where
       pub room : extent (list_in b xs) ≤ frees (view s ts).cells
-      room = omega (arith, counts)
+      room = omega (arith, told.1)
 
       pub reads : (ws us : List ℕ) {r : Outcome} → Shows s us (read (view s ts) h (list_in b xs)) → r ≡ done c.taken → Reads r us (used s.form ts ws) (read_into s.form b ts ws h xs)
       reads ws us {r} a said =
           let x : Read = record { answer = DONE; count = (verdict b xs).taken; table = words s (read (view s ts) h (list_in b xs)); work = used s.form ts ws } in
           let q : read_into s.form b ts ws h xs ≡ x = asked b k.table h xs ws ∙ simp (eq-eqb (holder (view s ts) h) 0 k.null, eq-eqb (verdict b xs).no 0 good, le-ltb _ _ room) in
-          let bytes : c.taken ≡ (verdict b xs).taken = ap (λ (y : Scanned). y.taken) k.told ∙ ap (λ (v : Answer). v.taken) as_scanned in
+          let bytes : c.taken ≡ (verdict b xs).taken = sym (ap (λ (v : Answer). v.taken) (judged_as told.0)) in
           subst (Reads r us (used s.form ts ws)) (sym q) (record { outcome = said ∙ ap done bytes; table = shown-words a; work = refl })
 
 pub entry-refused : (f : Form) (b : Stored) (ts ws : List ℕ) (h : ℕ) (xs : List ℕ) {r : Outcome} {n : ℕ} → TurnedAway work_words f ts (length ws) n → r ≡ refused n → Reads r ts ws (reading_in f b ts ws h xs)

@@ -1,13 +1,13 @@
--- `at_end` goes on from record to record. The invariant: as many are left at `i` as at the start.
-use Prim.Native.Nat.{◌-◌, ◌%◌}
-use mathlib.Core.Path.{◌≡◌}
-use lib.ListN.{length, drop}
+-- `at_end` goes on from record to record. The invariant: as many bytes that are no blanks are left as at the start.
+use Rattle.std.specs.Prelude.{◌≡◌, ◌%◌, length}
+use Rattle.std.specs.Slice.Iter.{chunks_exact_rest, chunks_exact_size}
 use Rattle.text.specs.Limits.{record_bytes}
 use Rattle.text.specs.Text.{others}
 use Rattle.records.proofs.at_end.Given as goal
 
-abbrev pub invariant-loop-i : goal.invariant-loop-i
-invariant-loop-i l = (l.i % record_bytes ≡ 0) × (others (drop l.from l.text) ≡ others (drop l.i l.text))
-
-abbrev pub decreases-loop-i : goal.decreases-loop-i
-decreases-loop-i l = length l.text - l.i
+abbrev pub invariant-loop-record : goal.invariant-loop-record
+invariant-loop-record l = record {
+  by_records : chunks_exact_size l.record-iterator ≡ record_bytes;
+  whole : length (chunks_exact_rest l.record-iterator) % record_bytes ≡ 0;
+  left : others l.text ≡ others (chunks_exact_rest l.record-iterator);
+}

@@ -1,33 +1,33 @@
-use borrow.Author.Rules.{rules}
-use mathlib.Core.Path.{refl, ◌∙◌}
-use native.Mathlib.Omega.{arith}
-use Rattle.scan.proofs.Fill.{blank_not, blank-on, record_full}
+-- `ending`: a byte that is no blank, or the end of the record.
+use Rattle.std.proofs.Common.{◌+◌, ◌-◌, ◌≡◌, arith, sym, ◌∙◌, drop, length-drop}
+use Rattle.std.proofs.lemmas.List.{length-take}
+use Rattle.scan.proofs.Fill.{in_fill, fill_byte, blank_not, blank-on, record_full}
 use Rattle.scan.proofs.ending.Goals as goal
 
-pub loop-i-init : goal.loop-i-init
-loop-i-init c = (search rules, refl)
+pub returns-then-b-ne32 : goal.returns-then-b-ne32
+returns-then-b-ne32 c =
+    let a = c.args in
+    let s = a.text.now in
+    let k = c.loop-b.b-index in
+    let on = in_fill s a.from c.next_multiple_of-end.result k c.loop-b-test.true in
+    let same = fill_byte s a.from c.next_multiple_of-end.result k c.loop-b-test.true in
+    blank_not s _ a.elements (a.from + k) c.loop-b.invariant on.0 (λ z. omega (arith, z, on.1, c.next_multiple_of-end.ensures)) (λ z. c.if-b-ne32.true (same ∙ z))
 
-pub bounds-text-i : goal.bounds-text-i
-bounds-text-i c = omega (arith, c.requires.sized.whole)
-
-pub returns-then-text-i-ne32 : goal.returns-then-text-i-ne32
-returns-then-text-i-ne32 c =
-    c.refused.ensures
-    ∙ blank_not c.args.text.now _ _ c.loop-i.i c.loop-i.invariant.1 (omega (arith, c.requires.sized.whole))
-    c.loop-i-test.true
-    c.if-text-i-ne32.true
-
-pub loop-i-smaller : goal.loop-i-smaller
-loop-i-smaller c = omega (arith, c.requires.sized.whole)
-
-pub loop-i-preserved : goal.loop-i-preserved
-loop-i-preserved c =
-    let whole = c.requires.sized.whole in
-    (omega arith, blank-on c.args.text.now _ _ c.loop-i.i c.loop-i.invariant.1 (omega arith) c.loop-i-test.true c.if-text-i-ne32.false)
-
-pub overflow_cast-i : goal.overflow_cast-i
-overflow_cast-i c = omega (arith, c.requires.sized.small)
+pub loop-b-preserved : goal.loop-b-preserved
+loop-b-preserved c =
+    let a = c.args in
+    let s = a.text.now in
+    let k = c.loop-b.b-index in
+    let on = in_fill s a.from c.next_multiple_of-end.result k c.loop-b-test.true in
+    let same = fill_byte s a.from c.next_multiple_of-end.result k c.loop-b-test.true in
+    let next : a.from + k + 1 ≡ a.from + (k + 1) = omega arith in
+    rw (← next) (blank-on s _ a.elements (a.from + k) c.loop-b.invariant on.0 (λ z. omega (arith, z, on.1, c.next_multiple_of-end.ensures)) (sym same ∙ c.if-b-ne32.false))
 
 pub returns : goal.returns
 returns c =
-    c.done.ensures ∙ record_full c.args.text.now _ _ c.loop-i.i c.loop-i.invariant.1 c.loop-i-test.false
+    let a = c.args in
+    let end = c.next_multiple_of-end.result in
+    let few = length-take (end - a.from) (drop a.from a.text.now) in
+    let left = length-drop a.from a.text.now in
+    let all : a.from + c.loop-b.b-index ≡ end = omega (arith, few, left, c.loop-b-test.false, c.loop-b.auto) in
+    record_full a.text.now _ a.elements end (rw all at c.loop-b.invariant) (omega arith)

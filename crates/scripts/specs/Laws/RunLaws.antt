@@ -1,12 +1,16 @@
 -- What a script run comes to, past its entry: the sizes test by test, then what each way out of the code gives.
-use Rattle.std.specs.Prelude.{◌≡◌, ◌≢◌, Bool, true, false, cond, not, ◌||◌, List, ℕ, ◌*◌, ◌/◌, ◌%◌, ◌≤◌, ◌<◌, eqb, ltb, length}
-use Rattle.std.proofs.Math.Path.{refl}
-use Rattle.std.proofs.Common.{sym, ap, ◌∙◌, subst, arith}
-use package.borrow.Author.Tests.{lt-ltb, le-ltb, eq-eqb, ne_eqb, ltb-false, eqb-true}
+use Rattle.std.specs.Prelude.{◌≡◌, refl, ◌≢◌, Bool, true, false, cond, not, ◌||◌, List, ℕ, ◌*◌, ◌/◌, ◌%◌, eqb, ltb, length}
+use Rattle.std.specs.Prelude.{Result, IsErrAnd}
+use Rattle.std.proofs.Common.{sym, ap, ◌∙◌, subst, arith, ltb-false, eqb-true}
+use Rattle.std.proofs.lemmas.Result.{err_from_is_err_and}
 use Rattle.answers.specs.Answers.{DONE, SCRIPT, RESULTS, UNSOUND, refused, unless}
 use Rattle.answers.specs.Codes.{operation_words, result_words, script_most}
 use Rattle.answers.specs.Laws.Unless.{goes_on_lem, refuses}
+use Rattle.answers.specs.Outcomes.{stopped_of}
+use Rattle.answers.specs.Refusals.{refusal_no}
 use Rattle.answers.specs.declared.Outcome.{Outcome}
+use Rattle.answers.specs.declared.Stopped.{Stopped}
+use Rattle.answers.specs.declared.refusal.Refusal.{Refusal}
 use Rattle.calls.specs.Entry.{work_words, entry_fault, Provided, shown, unsound, used}
 use Rattle.calls.specs.Run.{bad_results, script_fault, operations, not_run, ran_to, ran_in, Ran}
 use Rattle.calls.specs.Promised.{Runs}
@@ -21,25 +25,13 @@ use Rattle.table.specs.View.{view}
 use Rattle.table.specs.Laws.SizesLaws.{table_shape}
 use Rattle.table.proofs.WordsLaws.{shown-words}
 
+-- at the exit of a test that refuses
+pub stopped_at : (r : Result ℕ Stopped) (k : Refusal) → IsErrAnd r (λ e. (e.refusal ≡ k) × (e.count ≡ 0)) → stopped_of r ≡ refused (refusal_no k)
+stopped_at r k h =
+    let p = err_from_is_err_and r h in
+    rw (p.1, p.2.0, p.2.1) refl
+
 -- the sizes
-module _ (ss rs : List ℕ) where
-  pub not_whole : length ss % operation_words ≢ 0 → SCRIPT ≡ script_fault ss rs
-  unfolding script_fault
-  not_whole m = rw (ne_eqb (length ss % operation_words) 0 m) refl
-
-  pub too_many : length ss % operation_words ≡ 0 → script_most < length ss → SCRIPT ≡ script_fault ss rs
-  unfolding script_fault
-  too_many e l = rw (eq-eqb (length ss % operation_words) 0 e, lt-ltb script_most (length ss) l) refl
-
-  module _ (e : length ss % operation_words ≡ 0) (m : length ss ≤ script_most) where
-    pub few_results : length rs < result_words * (length ss / operation_words) → RESULTS ≡ script_fault ss rs
-    unfolding script_fault
-    few_results l = rw (eq-eqb (length ss % operation_words) 0 e, le-ltb script_most (length ss) m, lt-ltb (length rs) (result_words * (length ss / operation_words)) l) refl
-
-    pub no_fault : result_words * (length ss / operation_words) ≤ length rs → DONE ≡ script_fault ss rs
-    unfolding script_fault
-    no_fault l = rw (eq-eqb (length ss % operation_words) 0 e, le-ltb script_most (length ss) m, le-ltb (length rs) (result_words * (length ss / operation_words)) l) refl
-
 pub sizes : (ss rs : List ℕ) → script_fault ss rs ≡ DONE → Sized ss rs
 unfolding script_fault
 sizes ss rs = go (eqb (length ss % operation_words) 0) (ltb script_most (length ss)) (bad_results ss rs) refl refl refl

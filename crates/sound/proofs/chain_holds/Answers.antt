@@ -1,24 +1,19 @@
-use mathlib.Core.Path.{ap, sym, ◌∙◌}
-use Prim.Native.Nat.{◌-◌}
-use native.Mathlib.Omega.{arith}
+use Rattle.std.proofs.Common.{◌≡◌, false, ap, sym, ◌∙◌, ◌-◌, arith}
 use Rattle.pool.specs.Check.{chained}
 use Rattle.sound.specs.Laws.ChainLaws.{stop_far, stop_live, stop_long, go_on, at_end_lem}
+use Rattle.cells.specs.Views.{pool_of}
+use Rattle.sound.proofs.chain_holds.Goals.{then-x-t-via-then-x-t, then-x-t-via-else-x-t+then-count_of-ne0, then-x-t-via-else-x-t+else-count_of-ne0+then-left-eq0}
 use Rattle.sound.proofs.chain_holds.Goals as goal
 
-pub loop-x-init : goal.loop-x-init
-loop-x-init c = ap (chained _ _) c.free_head-x.ensures.0
-
-pub returns-then-x-s : goal.returns-then-x-s
-returns-then-x-s c =
-    sym (sym c.loop-x.invariant ∙ stop_far c.loop-x.left _ _ (omega arith))
-
-pub returns-then-count_of-ne0 : goal.returns-then-count_of-ne0
-returns-then-count_of-ne0 c =
-    sym (sym c.loop-x.invariant ∙ stop_live c.loop-x.left _ _ _ c.loop-x-test.true (omega arith) c.count_of.ensures.0 c.if-count_of-ne0.true)
-
-pub returns-then-left-eq0 : goal.returns-then-left-eq0
-returns-then-left-eq0 c =
-    sym (sym c.loop-x.invariant ∙ stop_long c.loop-x.left _ _ c.loop-x-test.true c.if-left-eq0.true)
+pub returns-then-x-t : goal.returns-then-x-t
+returns-then-x-t c =
+    let n = c.loop-x.left in
+    let stops : chained n (pool_of c.args.t).cells c.loop-x.x ≡ false = elim c.then-x-t.branch [
+      | then-x-t-via-then-x-t w ↦ stop_far n _ _ (omega (arith, w.if-x-t.true))
+      | then-x-t-via-else-x-t+then-count_of-ne0 w ↦ stop_live n _ _ _ c.loop-x-test.true (omega (arith, w.if-x-t.false)) w.count_of.ensures.0 w.if-count_of-ne0.true
+      | then-x-t-via-else-x-t+else-count_of-ne0+then-left-eq0 w ↦ stop_long n _ _ c.loop-x-test.true w.if-left-eq0.true
+    ] in
+    sym (sym c.loop-x.invariant ∙ stops)
 
 pub loop-x-preserved : goal.loop-x-preserved
 loop-x-preserved c =

@@ -1,24 +1,26 @@
 -- `sound::examine` meets its contract.
-use native.Mathlib.Omega.{arith}
-use Rattle.table.specs.View.{view}
+use Rattle.std.proofs.Common.{rules, arith}
+use Rattle.std.proofs.lemmas.Bool.Decides.{nat_tests}
+use Rattle.cells.specs.Views.{pool_of}
 use Rattle.sound.specs.Laws.PeelLaws.{gone_fits}
-use Rattle.sound.specs.Laws.DecidedLaws.{frees_few, decided}
+use Rattle.sound.specs.Laws.DecidedLaws.{frees_few, examined}
 use Rattle.sound.proofs.examine.Goals as goal
 
-pub overflow_add-e : goal.overflow_add-e
-overflow_add-e c =
-    let a = c.args in
-    let t = c.requires.table in
+pub overflow_add-result : goal.overflow_add-result
+overflow_add-result c =
+    let t = c.args.t in
     omega (
       arith,
-      gone_fits _ _ _ _ c.peel_all-e.result t.measured c.peel_all-e.ensures,
-      frees_few (view a.s a.t.now).cells,
+      gone_fits _ _ _ _ c.peel_all-e.result t.table.measured c.peel_all-e.ensures,
+      frees_few (pool_of t).cells,
     )
 
-pub returns : goal.returns
-returns c =
-    record {
-      decided = decided _ _ _ _ _ _ _ _ _ _ _ c.requires.table.measured c.copy_counts-free.ensures c.peel_all-e.ensures
-          c.chain_holds-a.ensures c.both.ensures c.both-2.ensures c.clear.ensures;
-      free = c.copy_counts-free.ensures.number;
-    }
+pub returns-then-e-eq1 : goal.returns-then-e-eq1
+returns-then-e-eq1 c =
+    examined _ _ _ _ _ _ _ _ _ _ c.args.t.table.measured c.copy_counts-free.ensures c.peel_all-e.ensures c.chain_holds-a.ensures
+    (search (rules, nat_tests)) c.clear.ensures
+
+pub returns-else-e-eq1 : goal.returns-else-e-eq1
+returns-else-e-eq1 c =
+    examined _ _ _ _ _ _ _ _ _ _ c.args.t.table.measured c.copy_counts-free.ensures c.peel_all-e.ensures c.chain_holds-a.ensures
+    (search (rules, nat_tests)) c.clear.ensures

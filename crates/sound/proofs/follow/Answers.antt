@@ -1,5 +1,5 @@
 -- `sound::follow` meets its contract.
-use native.Mathlib.Omega.{arith}
+use Rattle.std.proofs.Common.{arith}
 use Rattle.sound.specs.Laws.MirrorLaws.{follow_null, follow_far, follow_free, follow_one, follow_last}
 use Rattle.sound.proofs.follow.Goals as goal
 

@@ -9,7 +9,7 @@ use Rattle.table.specs.declared.Shape.{Shape}
 use Rattle.table.specs.View.{view}
 use Rattle.table.specs.Sizes.{cleared}
 use Rattle.sound.specs.declared.Peel.{Peel}
-use Rattle.sound.specs.Decided.{Decided}
+use Rattle.sound.specs.Decided.{Decided, Examined}
 use Rattle.sound.specs.Mirror.{Within, Copied, Peeled}
 use Rattle.sound.specs.Laws.MirrorLaws.{within_then}
 
@@ -22,19 +22,18 @@ same_bool false false f g = refl
 pub frees_few : (cs : List Cell) → frees cs ≤ length cs
 frees_few cs = omega (arith, frees-lives cs)
 
-module _ (s : Shape) (ts ws us vs zs : List ℕ) (free : ℕ) (e : Peel) (a b r : Bool) (len : length (view s ts).cells ≡ s.cells)
+module _ (s : Shape) (ts ws us vs zs : List ℕ) (free : ℕ) (e : Peel) (a r : Bool) (len : length (view s ts).cells ≡ s.cells)
     (c : Copied s.cells (view s ts).cells ws us free) (k : Peeled s.cells (view s ts) us vs e) where
-  is_tested : a ≡ chained free (view s ts).cells (view s ts).free → b ≡ (eqb e.ok 1 && eqb (e.gone + free) s.cells) → r ≡ (a && b)
-      → r ≡ tested e.gone (view s ts)
+  is_tested : a ≡ chained free (view s ts).cells (view s ts).free → r ≡ (a && (eqb e.ok 1 && eqb (e.gone + free) s.cells)) → r ≡ tested e.gone (view s ts)
   unfolding peeled?
-  is_tested ae be re = rw (len, ← c.number, ← k.shown.shows.ok, ← k.shown.shows.gone) (rw (re, be, ae))
+  is_tested ae re = rw (len, ← c.number, ← k.shown.shows.ok, ← k.shown.shows.gone) (rw (re, ae))
 
-  pub decided : a ≡ chained free (view s ts).cells (view s ts).free → b ≡ (eqb e.ok 1 && eqb (e.gone + free) s.cells) → r ≡ (a && b)
+  decided : a ≡ chained free (view s ts).cells (view s ts).free → r ≡ (a && (eqb e.ok 1 && eqb (e.gone + free) s.cells))
       → zs ≡ cleared (2 * s.cells) vs → Decided s ts ws zs r
-  decided ae be re ze =
+  decided ae re ze =
       let p : Pool = view s ts in
       let n : ℕ = s.cells in
-      let v : r ≡ tested e.gone p = is_tested ae be re in
+      let v : r ≡ tested e.gone p = is_tested ae re in
       let there = tested_sound e.gone p k.ended in
       let back = sound_tested e.gone p k.ended in
       let answer : r ≡ check p = v ∙ same_bool (tested e.gone p) (check p) (there, back) (check_decides p) in
@@ -45,3 +44,7 @@ module _ (s : Shape) (ts ws us vs zs : List ℕ) (free : ℕ) (e : Peel) (a b r 
         sound = ((λ h. (check_decides p).0 (sym answer ∙ h)), λ h. answer ∙ (check_decides p).1 h);
         work = ze ∙ ap (λ u. replicate (2 * n) 0 ++ u) (subst (λ u. drop u vs ≡ drop u ws) q w.rest);
       }
+
+  pub examined : a ≡ chained free (view s ts).cells (view s ts).free → r ≡ (a && (eqb e.ok 1 && eqb (e.gone + free) s.cells))
+      → zs ≡ cleared (2 * s.cells) vs → Examined s ts ws zs (record { sound = r; free = free })
+  examined ae re ze = record { decided = decided ae re ze; free = c.number }

@@ -6,13 +6,10 @@ use Rattle.storing.specs.Readers.{Leaves}
 use Rattle.storing.proofs.+element_list.Given as goal
 
 abbrev pub decreases-element : goal.decreases-element
-decreases-element l = 2 * (length l.bytes.now - l.at)
+decreases-element l = 2 * (length l.bytes.now - l.spot.at)
 
 abbrev pub decreases-list : goal.decreases-list
 decreases-list l = 2 * (length l.bytes.now - l.at) + 1
 
-abbrev pub invariant-list-loop-left : goal.invariant-list-loop-left
-invariant-list-loop-left l = Leaves l.s l.h l.bytes l.initial.t l.at l.n l.k l.t l.spot l.left
-
-abbrev pub decreases-list-loop-left : goal.decreases-list-loop-left
-decreases-list-loop-left l = l.left
+abbrev pub invariant-list-loop : goal.invariant-list-loop
+invariant-list-loop l = Leaves l.s l.h l.bytes l.initial.t l.at l.n l.k l.t l.spot (l.n - l.counter)

@@ -1,10 +1,11 @@
 -- The reader of an element, return by return: an even number is an atom, an odd one begins a list.
-use Rattle.std.specs.Prelude.{◌≡◌, List, [], ◌∷◌, ◌++◌, false, ℕ, ◌/◌, ◌%◌, ◌^◌, ◌<◌, length}
+use Rattle.std.specs.Prelude.{◌≡◌, Some, IsSome, List, [], ◌∷◌, ◌++◌, false, ℕ, ◌/◌, ◌%◌, ◌^◌, ◌<◌, length}
 use Rattle.std.proofs.Common.{sym, ap, subst, ◌∙◌, arith}
-use Rattle.building.specs.Hooks.{hook_next}
+use Rattle.building.specs.Hooks.{hook_cell}
 use Rattle.building.specs.Underway.{Coming, Comes, BeginsList, AddsAtom}
 use Rattle.building.specs.Laws.StepLaws.{and_then, comes_then, first_comes}
 use Rattle.building.specs.declared.hook.Hook.{Hook}
+use Rattle.building.specs.declared.hook.Hook.TheVariants.{Next}
 use Rattle.groups.specs.Groups.{elements}
 use Rattle.lists.specs.Lst.{Lst}
 use Rattle.numbers.specs.Numbers.{number_in}
@@ -15,7 +16,7 @@ use Rattle.text.specs.Marks.{Mark, opened, value, marks_of}
 use Rattle.text.specs.Laws.MarkLaws.{with_open}
 use Rattle.storing.specs.Ahead.{after, AtomAhead, ListAhead}
 use Rattle.storing.specs.Readers.{Due, DueElement, Gone, ReadsElement, ReadsList}
-use Rattle.storing.specs.Laws.AheadLaws.{atom_ahead, list_ahead}
+use Rattle.storing.specs.Laws.AheadLaws.{some_ahead, atom_ahead, list_ahead}
 use Rattle.storing.specs.Laws.PassLaws.{front_comes, steps-passed}
 
 -- the marks of what lies ahead
@@ -30,7 +31,11 @@ list_marks : {s : List ℕ} {at : ℕ} {l : Lst} {later : List ℕ} {n : Number}
 list_marks a =
     ap (marks_of false) a.is ∙ ap (λ (ms : List Mark). ms ++ marks_of false a.rest) (with_open a.inside)
 
-module _ {s : Shape} {h : ℕ} {bytes : List ℕ} {at : ℕ} {n : Number} (e : n ≡ number_in bytes at)
+pub due-number : {s : Shape} {h : ℕ} {bytes : List ℕ} {at : ℕ} {ts : List ℕ} {k : Hook} → DueElement s ts h bytes at k
+    → IsSome (number_in bytes at)
+due-number d = some_ahead d.2.rest d.2.ahead (omega (arith, d.1, d.2.count))
+
+module _ {s : Shape} {h : ℕ} {bytes : List ℕ} {at : ℕ} {n : Number} (e : Some n ≡ number_in bytes at)
     {ts : List ℕ} {k : Hook} where
   -- an atom
   module _ (even : n.value % 2 ≡ 0) where
@@ -80,15 +85,16 @@ module _ {s : Shape} {h : ℕ} {bytes : List ℕ} {at : ℕ} {n : Number} (e : n
             later = elements a.rest ++ d.2.later;
             ahead = a.ahead;
             count = omega (arith, a.number);
-            comes = (j.cell ∷ cs, front_comes (marks_of false a.inside) (marks_of false a.rest) begun);
+            comes = (hook_cell j ∷ cs, front_comes (marks_of false a.inside) (marks_of false a.rest) begun);
           }
 
-      pub list_read : {vs : List ℕ} {end : ℕ} → ReadsList s h bytes us n.end (n.value / 2) j vs end
-          → ReadsElement s h bytes ts at k vs (record { at = end; hook = hook_next j.cell })
-      list_read {vs} {end} inner l later ahead some =
+      pub list_read : {vs : List ℕ} {end c : ℕ} → c ≡ hook_cell j → ReadsList s h bytes us n.end (n.value / 2) j vs end
+          → ReadsElement s h bytes ts at k vs (record { at = end; hook = Next c })
+      list_read {vs} {end} {c} cell inner l later ahead some =
           let a = list_ahead e l ahead some odd in
           let w = inner a.inside (elements a.rest ++ later) a.ahead (omega (arith, a.number)) in
-          subst (Gone s h bytes later ts at k l vs (record { at = end; hook = hook_next j.cell }))
+          rw cell
+          (subst (Gone s h bytes later ts at k l vs (record { at = end; hook = Next (hook_cell j) }))
           (sym (ap after a.is))
           record {
             on = omega (arith, a.on, w.on);
@@ -96,4 +102,4 @@ module _ {s : Shape} {h : ℕ} {bytes : List ℕ} {at : ℕ} {n : Number} (e : n
             passes =
                 steps-passed l a.rest (opened ∷ marks_of false a.inside) (λ cs. and_then (b cs) (w.steps cs))
                 (list_marks a);
-          }
+          })

@@ -1,10 +1,11 @@
 -- The reader of a list, turn by turn, and its end.
-use Rattle.std.specs.Prelude.{◌≡◌, refl, List, [], ◌∷◌, false, ℕ, ◌-◌, ◌≤◌, ◌<◌}
+use Rattle.std.specs.Prelude.{◌≡◌, refl, List, [], ◌∷◌, false, ℕ, ◌+◌, ◌-◌, ◌≤◌, ◌<◌}
 use Rattle.std.proofs.Math.Path.{subst}
-use Rattle.std.proofs.Common.{◌∙◌, arith}
-use Rattle.building.specs.Hooks.{hook_next}
+use Rattle.std.proofs.Common.{ap, ◌∙◌, arith}
+use Rattle.building.specs.Hooks.{hook_cell}
 use Rattle.building.specs.Underway.{LeadsTo, Comes, ShutsList}
 use Rattle.building.specs.declared.hook.Hook.{Hook}
+use Rattle.building.specs.declared.hook.Hook.TheVariants.{Next}
 use Rattle.groups.specs.Groups.{elements}
 use Rattle.lists.specs.Lst.{Lst, nil, atom, list, len}
 use Rattle.table.specs.declared.Shape.{Shape}
@@ -28,10 +29,10 @@ len-none (atom v l) e = absurd (omega arith)
 len-none (list m l) e = absurd (omega arith)
 
 module _ {s : Shape} {h : ℕ} {bytes : List ℕ} {ts : List ℕ} {at n : ℕ} {k : Hook} where
-  pub all_left : Table s ts → Leaves s h bytes ts at n k ts (record { at = at; hook = k }) n
+  pub all_left : Table s ts → Leaves s h bytes ts at n k ts (record { at = at; hook = k }) (n - 0)
   all_left t l later a c = record {
     rest = l;
-    count = c;
+    count = omega (arith, c);
     gone = record { on = omega arith; ahead = a; passes = none_passed t };
   }
 
@@ -60,14 +61,14 @@ module _ {s : Shape} {h : ℕ} {bytes : List ℕ} {ts : List ℕ} {at n : ℕ} {
     pub next_due : 0 < left → Due s ts h bytes at n k → DueElement s us h bytes r.at r.hook
     next_due some d = (left, some, left_due d)
 
-    pub one_less : {vs : List ℕ} {i : Spot} → 0 < left → ReadsElement s h bytes us r.at r.hook vs i
-        → Leaves s h bytes ts at n k vs i (left - 1)
-    one_less {vs} {i} some b l later a c =
+    pub one_less : {vs : List ℕ} {i : Spot} {m : ℕ} → m + 1 ≡ left → ReadsElement s h bytes us r.at r.hook vs i
+        → Leaves s h bytes ts at n k vs i m
+    one_less {vs} {i} {m} one b l later a c =
         let g = w l later a c in
         let x = b g.rest later g.gone.ahead (omega (arith, g.count)) in
         record {
           rest = after g.rest;
-          count = omega (arith, len_after g.rest, g.count);
+          count = omega (arith, len_after g.rest, g.count, one);
           gone = record {
             on = omega (arith, g.gone.on, x.on);
             ahead = x.ahead;
@@ -83,20 +84,21 @@ module _ {s : Shape} {h : ℕ} {bytes : List ℕ} {ts : List ℕ} {at n : ℕ} {
           subst (λ (l : Lst). Comes (view s us) h r.hook (marks_of false l)) (len-none g.rest (g.count ∙ none))
           g.comes
 
-      pub list_ended : {vs : List ℕ} {j : Hook} → ShutsList k.cell s h us r.hook vs j → j ≡ hook_next k.cell
+      pub list_ended : {vs : List ℕ} {j : Hook} {c : ℕ} → c ≡ hook_cell k → ShutsList c s h us r.hook vs j → j ≡ Next c
           → ReadsList s h bytes ts at n k vs r.at
       unfolding elements
-      list_ended {vs} {j} b e l later a c =
-          let left = w l later a c in
+      list_ended {vs} {j} {c} cell b e l later a count =
+          let own : ShutsList (hook_cell k) s h us r.hook vs j = subst (λ (x : ℕ). ShutsList x s h us r.hook vs j) cell b in
+          let left = w l later a count in
           let nothing = len-none left.rest (left.count ∙ none) in
           let g = subst (Gone s h bytes later ts at k l us r) nothing left.gone in
           record {
             on = g.on;
             behind = g.ahead.bytes;
             steps = λ cs. record {
-              table = (b cs).table;
+              table = (own cs).table;
               leads = λ q next x.
-                  subst (λ (i : Hook). LeadsTo (view s vs) h i cs q next) e
-                  ((b cs).leads q next (g.passes.leads (k.cell ∷ cs) q next x));
+                  subst (λ (i : Hook). LeadsTo (view s vs) h i cs q next) (e ∙ ap Next cell)
+                  ((own cs).leads q next (g.passes.leads (hook_cell k ∷ cs) q next x));
             };
           }

@@ -1,21 +1,19 @@
 -- `table::part_of` meets its contract.
-use native.Mathlib.Omega.{arith}
 use Rattle.table.specs.Pack.{part}
-use mathlib.Core.Path.{◌≡◌}
 use Rattle.table.proofs.part_of.Goals as goal
 
-pub returns-then-k-eq0 : goal.returns-then-k-eq0
+pub returns-in-Kind : goal.returns-in-Kind
 unfolding part
-returns-then-k-eq0 c = rw c.if-k-eq0.true
+returns-in-Kind c = rw c.in-Kind.is
 
-pub returns-then-k-eq1 : goal.returns-then-k-eq1
+pub returns-in-Elem : goal.returns-in-Elem
 unfolding part
-returns-then-k-eq1 c = rw c.if-k-eq1.true
+returns-in-Elem c = rw c.in-Elem.is
 
-pub returns-then-k-eq2 : goal.returns-then-k-eq2
+pub returns-in-Count : goal.returns-in-Count
 unfolding part
-returns-then-k-eq2 c = rw c.if-k-eq2.true
+returns-in-Count c = rw c.in-Count.is
 
-pub returns : goal.returns
+pub returns-in-Next : goal.returns-in-Next
 unfolding part
-returns c = let q : c.args.k ≡ 3 = omega arith in rw q
+returns-in-Next c = rw c.in-Next.is

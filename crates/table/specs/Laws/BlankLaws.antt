@@ -18,17 +18,6 @@ use Rattle.table.specs.Blank.{headed, blank_pool}
 use Rattle.table.specs.Laws.ViewLaws.{pool-path, cell-path}
 use Rattle.table.specs.Laws.SizesLaws.{Fits}
 
--- which words are stored
-pub cells_headed : (f : Form) (h n : ℕ) (ws : List ℕ) → head f ≤ 2 → set ws 0 n ≡ headed f h n ws
-cells_headed Four h n ws l = refl
-cells_headed Packed h n ws l = refl
-cells_headed Wide h n ws l = absurd (omega arith)
-
-pub both-headed : (f : Form) (h n : ℕ) (ws : List ℕ) → 2 < head f → set (set ws 0 n) 2 h ≡ headed f h n ws
-both-headed Four h n ws l = absurd (omega arith)
-both-headed Packed h n ws l = absurd (omega arith)
-both-headed Wide h n ws l = refl
-
 pub headed-length : (f : Form) (h n : ℕ) (ws : List ℕ) → length (headed f h n ws) ≡ length ws
 headed-length Four h n ws = length-set ws 0 n
 headed-length Packed h n ws = length-set ws 0 n

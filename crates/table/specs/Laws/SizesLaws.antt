@@ -2,13 +2,12 @@
 use Rattle.table.specs.declared.Form.{Form}
 use Rattle.table.specs.declared.Form.TheVariants.{Four, Packed, Wide}
 use Rattle.table.specs.declared.Shape.{Shape}
-use Rattle.std.specs.Prelude.{◌≡◌, refl, Bool, true, false, cond, ◌&&◌, List, [], ◌∷◌, ◌++◌, ℕ, ◌≤◌, ◌<◌, zero, suc, ◌+◌, eqb, leb, length, get_or, set, replicate, drop}
-use Rattle.std.proofs.Common.{sym, ap, ◌∙◌, arith, length-append, length-drop, eq-eqb, le-leb, leb-true, eqb-true, drop-cons, add-one}
-use Rattle.std.proofs.lemmas.Bool.{false≢true, lt-leb}
-use Rattle.std.proofs.lemmas.List.{length-replicate, set_at}
+use Rattle.std.specs.Prelude.{◌≡◌, refl, Bool, true, false, cond, ◌&&◌, List, ℕ, ◌≤◌, eqb, leb, length}
+use Rattle.std.proofs.Common.{sym, ap, ◌∙◌, arith, eq-eqb, le-leb, leb-true, eqb-true}
+use Rattle.std.proofs.lemmas.Bool.{false≢true}
 use Rattle.table.specs.Limits.{cells_most, cells_told, holders_fit, holders_told, holders_many, holders_most}
 use Rattle.table.specs.View.{shape, word_count, Table}
-use Rattle.table.specs.Sizes.{sizes_fit, cells_of, shape_of, cleared}
+use Rattle.table.specs.Sizes.{sizes_fit, cells_of, shape_of}
 
 -- the number of holders that a form allows
 pub record Holds (h : ℕ) : Type 0 where
@@ -24,15 +23,6 @@ holds Wide h e = go (leb 1 h) (leb h holders_many) refl refl e
     go true true p q e = record { some = leb-true 1 h p; wide = leb-true h holders_many q }
     go true false p q e = absurd (false≢true e)
     go false b p q e = absurd (false≢true e)
-
-pub none : (s : Shape) (k : ℕ) → s.cells < 1 → sizes_fit s k ≡ false
-none s k h = rw (lt-leb 1 s.cells h)
-
-pub many : (s : Shape) (k : ℕ) → 1 ≤ s.cells → cells_most s.form < s.cells → sizes_fit s k ≡ false
-many s k a h = rw (le-leb 1 s.cells a, lt-leb s.cells (cells_most s.form) h)
-
-pub unheld : (s : Shape) (k : ℕ) → 1 ≤ s.cells → s.cells ≤ cells_most s.form → holders_fit s.form s.holders ≡ false → sizes_fit s k ≡ false
-unheld s k a b h = rw (le-leb 1 s.cells a, le-leb s.cells (cells_most s.form) b, h)
 
 pub by_length : (s : Shape) (k : ℕ) → 1 ≤ s.cells → s.cells ≤ cells_most s.form → holders_fit s.form s.holders ≡ true → sizes_fit s k ≡ eqb k (word_count s)
 by_length s k a b h = rw (le-leb 1 s.cells a, le-leb s.cells (cells_most s.form) b, h)
@@ -72,31 +62,10 @@ table_cells s ts t = rw (t.told, t.heads) (rw (table_fits s ts t) refl)
 pub table_shape : (s : Shape) (ts : List ℕ) → Table s ts → shape_of s.form ts ≡ s
 table_shape s ts t = λ i. shape s.form (t.heads i) (table_cells s ts t i)
 
--- the number that a table tells, by the tests of the code
-pub no_words : (f : Form) (ts : List ℕ) → length ts ≡ 0 → 0 ≡ cells_of f ts
-unfolding cells_of
-no_words f [] e = sym (ap (λ (b : Bool). cond b 0 0) (none (shape f (holders_told f []) 0) 0 (omega arith)))
-no_words f (t ∷ ts) e = absurd (omega arith)
-
+-- the number that a table tells, by the test of the code
 pub its_cells : (f : Form) (ts : List ℕ) (b : Bool) → b ≡ sizes_fit (shape f (holders_told f ts) (cells_told ts)) (length ts) → cond b (cells_told ts) 0 ≡ cells_of f ts
 unfolding cells_of
 its_cells f ts b e = ap (λ (c : Bool). cond c (cells_told ts) 0) e
 
 pub its_shape : (f : Form) (ts : List ℕ) (h n : ℕ) (b : Bool) → h ≡ holders_told f ts → n ≡ cells_told ts → b ≡ sizes_fit (shape f h n) (length ts) → shape f h (cond b n 0) ≡ shape_of f ts
 its_shape f ts h n b p q e = λ i. shape f (p i) ((ap (λ (x : ℕ). cond b x 0) q ∙ its_cells f ts b (e ∙ λ j. sizes_fit (shape f (p j) (q j)) (length ts))) i)
-
--- clearing word by word
-zeros_then : (i : ℕ) (ys : List ℕ) → replicate i 0 ++ (0 ∷ ys) ≡ replicate (suc i) 0 ++ ys
-zeros_then zero ys = refl
-zeros_then (suc i) ys = ap (λ (u : List ℕ). 0 ∷ u) (zeros_then i ys)
-
-pub clear_step : (ws us : List ℕ) (i : ℕ) → i < length ws → us ≡ cleared i ws → set us i 0 ≡ cleared (i + 1) ws
-clear_step ws us i l e =
-    rw add-one (
-    ap (λ (u : List ℕ). set u i 0) (e ∙ ap (λ (u : List ℕ). replicate i 0 ++ u) (drop-cons ws i 0 l))
-    ∙ set_at (replicate i 0) (get_or ws i 0) (drop (suc i) ws) 0 i (length-replicate i 0)
-    ∙ zeros_then i (drop (suc i) ws)
-    )
-
-pub cleared-length : (ws : List ℕ) (i : ℕ) → i ≤ length ws → length (cleared i ws) ≡ length ws
-cleared-length ws i l = simp (length-append, length-replicate, length-drop) (omega arith)

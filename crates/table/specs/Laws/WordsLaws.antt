@@ -144,10 +144,10 @@ module _ (s : Shape) (p : Pool) (eh : length p.holders ≡ holder_count s) (ec :
     view-words = pool-path refl holders_back cells_back
 
 -- every cell that words show has room in them
-shown_fits : (b : Bool) (a : ℕ) (ws : List ℕ) (i : ℕ) → Fit b (cell_of b a ws i)
+shown_fits : (b : Bool) (a : ℕ) (us : List ℕ) (i : ℕ) → Fit b (cell_of b a us i)
 unfolding cell_of cell_word
-shown_fits false a ws i = λ e. absurd (false≢true e)
-shown_fits true a ws i = λ e. (count_below (get_or ws (a + 2 * i) 0) (get_or ws (a + 2 * i + 1) 0), next-below (get_or ws (a + 2 * i) 0) (get_or ws (a + 2 * i + 1) 0))
+shown_fits false a us i = λ e. absurd (false≢true e)
+shown_fits true a us i = λ e. (count_below (get_or us (a + 2 * i) 0) (get_or us (a + 2 * i + 1) 0), next-below (get_or us (a + 2 * i) 0) (get_or us (a + 2 * i + 1) 0))
 
 pub view_fits : (s : Shape) (ws : List ℕ) (i : ℕ) → i < s.cells → Fit (packs s.form) (get_or (view s ws).cells i blank)
 unfolding view

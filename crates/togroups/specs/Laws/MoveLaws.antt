@@ -16,12 +16,9 @@ use Rattle.groups.specs.Stored.{judged}
 use Rattle.groups.specs.Writing.{usable}
 use Rattle.groups.specs.declared.Stored.TheVariants.{Text, Groups}
 use Rattle.lists.specs.Lst.{Lst, order}
-use Rattle.scan.specs.Outcomes.{scanned_as}
-use Rattle.scan.specs.declared.Scanned.{Scanned}
 use Rattle.text.specs.Limits.{levels, text_most}
 use Rattle.text.specs.Marks.{list_in}
 use Rattle.text.specs.Text.{Answer, scanned, size_fault, verdict, done, refusal}
-use Rattle.text.specs.Laws.Accepted.{taken-answer}
 use Rattle.text.specs.Laws.SizeLaws.{right-size, wrong_size}
 use Rattle.togroups.specs.Laid.{over_back}
 use Rattle.togroups.specs.Turned.{turned}
@@ -44,10 +41,8 @@ module _ (s xs : List ℕ) {r : Moved} where
   pub bad_size : {n : ℕ} → n ≡ size_fault s → n ≢ DONE → r ≡ not_moved n → Moves r xs (moved_from Text s xs)
   bad_size e z g = refused (refusal (size_fault s)) (wrong_size s (λ q. z (e ∙ q))) (λ q. z (e ∙ q)) (g ∙ ap not_moved e)
 
-  pub faulty : {c : Scanned} → size_fault s ≡ DONE → c ≡ scanned_as s → c.answer ≢ DONE → r ≡ not_moved c.answer → Moves r xs (moved_from Text s xs)
-  faulty {c} f e n g =
-      let a : c.answer ≡ (scanned s).no = ap (λ (k : Scanned). k.answer) e in
-      refused (scanned s) (right-size s f) (λ q. n (a ∙ q)) (g ∙ ap not_moved a)
+  pub faulty : {n : ℕ} → size_fault s ≡ DONE → scanned s ≡ refusal n → n ≢ DONE → r ≡ not_moved n → Moves r xs (moved_from Text s xs)
+  faulty {n} f e d g = refused (refusal n) (right-size s f ∙ e) d g
 
   -- a list
   pub moves : (m : ℕ) (out : List ℕ) → verdict s ≡ done m → Moves r out (put_out Groups m (list_in s) xs) → Moves r out (moved_from Text s xs)
@@ -57,11 +52,8 @@ module _ (s xs : List ℕ) {r : Moved} where
       moved_as : Answer → Move
       moved_as a = cond (eqb a.no DONE) (put_out Groups a.taken (list_in s) xs) (left_alone a.no xs)
 
-pub taken-text : (s : List ℕ) (c : Scanned) → size_fault s ≡ DONE → c ≡ scanned_as s → c.answer ≡ DONE → verdict s ≡ done c.taken
-taken-text s c f e z =
-    let a : c.answer ≡ (scanned s).no = ap (λ (k : Scanned). k.answer) e in
-    let t : c.taken ≡ (scanned s).taken = ap (λ (k : Scanned). k.taken) e in
-    right-size s f ∙ taken-answer (scanned s) (sym a ∙ z) ∙ ap done (sym t)
+pub taken-text : (s : List ℕ) (m : ℕ) → size_fault s ≡ DONE → scanned s ≡ done m → verdict s ≡ done m
+taken-text s m f e = right-size s f ∙ e
 
 -- ---- the list
 

@@ -10,7 +10,7 @@ use Rattle.text.specs.Limits.{levels, text_most}
 use Rattle.text.specs.ListText.{is_digit_byte}
 use Rattle.text.specs.Marks.{pushes, list_in}
 use Rattle.togroups.specs.Backward.{marks_from, open_in}
-use Rattle.togroups.specs.Laid.{coming, laid_back, over_back}
+use Rattle.togroups.specs.Laid.{laid_back, over_back}
 use Rattle.togroups.specs.Listed.{Listed}
 use Rattle.togroups.specs.OpenLists.{groups_in}
 use Rattle.togroups.specs.Passing.{Passing}
@@ -63,34 +63,38 @@ module _ (t old : List ℕ) (puts : Bool) (out outer : List ℕ) (w : Walk) (n :
   pub few_bytes : n ≤ text_most
   few_bytes = omega (arith, k.size, within w outer k.walks, g.small, g.short)
 
-  module _ (next : List ℕ) (r : Walk) (s : Stepped t next w r) where
-    pub room-on : puts ≡ true → n + length (met r) ≤ length out
-    room-on y = omega (arith, k.size, ap length s.groups, length-append (met r) (groups_from t w.at), within r next s.walks, fits y, same-room)
+  -- a step that meets the number of some groups, or none
+  module _ (next : List ℕ) (r : Walk) (s : Stepped t next w r) (bs : List ℕ) (m : met r.number ≡ bs) where
+    grown : groups_from t r.at ≡ bs ++ groups_from t w.at
+    grown = s.groups ∙ ap (λ (u : List ℕ). u ++ groups_from t w.at) m
 
-    pub pass_on : (new : List ℕ) (m : ℕ) → m ≡ n + length (met r) → new ≡ laid_back puts out n (met r) → Passing t old puts new next r m
+    pub room-on : puts ≡ true → n + length bs ≤ length out
+    room-on y = omega (arith, k.size, ap length grown, length-append bs (groups_from t w.at), within r next s.walks, fits y, same-room)
+
+    pub pass_on : (new : List ℕ) (m : ℕ) → m ≡ n + length bs → new ≡ laid_back puts out n bs → Passing t old puts new next r m
     pass_on new m e b = record {
       walks = s.walks;
-      size = omega (arith, k.size, ap length s.groups, length-append (met r) (groups_from t w.at));
-      bytes = b ∙ ap (λ (u : List ℕ). laid_back puts u n (met r)) k.bytes ∙ over-more puts (met r) (groups_from t w.at) old n k.size
-          ∙ ap (λ (u : List ℕ). over_back puts u old) (sym s.groups);
+      size = omega (arith, k.size, ap length grown, length-append bs (groups_from t w.at));
+      bytes = b ∙ ap (λ (u : List ℕ). laid_back puts u n bs) k.bytes ∙ over-more puts bs (groups_from t w.at) old n k.size
+          ∙ ap (λ (u : List ℕ). over_back puts u old) (sym grown);
     }
 
-  -- at the outermost "("
-  module _ (e : w.at ≡ 1) where
+  -- at the outermost "(", with the number v of the whole list
+  module _ (e : w.at ≡ 1) (v : ℕ) (is : v ≡ 2 * w.count + 1) where
     all : open_in (drop w.at t) ≡ list_in t ∷ []
     all = ap (λ (i : ℕ). open_in (drop i t)) e ∙ whole_open t g
 
-    pub its_number : 2 * w.count + 1 ≡ list_number (list_in t)
-    its_number = let h = subst (Here outer w.count) all k.walks.here in ap (λ (i : ℕ). 2 * i + 1) h.0
+    its_number : v ≡ list_number (list_in t)
+    its_number = let h = subst (Here outer w.count) all k.walks.here in is ∙ ap (λ (i : ℕ). 2 * i + 1) h.0
 
     elements-met : groups_from t w.at ≡ elements (list_in t)
     elements-met = ap groups_in all ∙ append-nil (elements (list_in t))
 
-    pub number_fits : 2 * w.count + 1 < numbers_end
-    number_fits = omega (arith, k.walks.few, few_bytes, k.size)
+    pub number_fits : v < numbers_end
+    number_fits = omega (arith, is, k.walks.few, few_bytes, k.size)
 
     abbrev header : List ℕ
-    header = coming true (2 * w.count + 1)
+    header = number v
 
     whole : header ++ groups_from t w.at ≡ groups_of (list_in t)
     whole = ap (λ (i : ℕ). number i ++ groups_from t w.at) its_number ∙ ap (λ (u : List ℕ). number (list_number (list_in t)) ++ u) elements-met

@@ -190,7 +190,7 @@ module _ (t outer : List ℕ) (w : Walk) (g : Listed t) (k : Walking t outer w) 
                 (omega (arith, k.deep)) (refl, kept outer lists w.depth w.count k.deep o k.here) (omega arith) (length-set outer w.depth w.count ∙ k.wide) p.2;
             back = omega arith;
             groups = ap groups_in p.0;
-            small = omega arith;
+            small = tt;
           }
 
     -- "(" of an element
@@ -225,7 +225,7 @@ module _ (t outer : List ℕ) (w : Walk) (g : Listed t) (k : Walking t outer w) 
           walks = stands t outer (blank_at w) lists same (omega arith) (omega (arith, k.within)) (λ y. d) k.deep k.here k.few k.wide k.lists;
           back = omega arith;
           groups = ap groups_in same;
-          small = omega arith;
+          small = tt;
         }
 
     -- an atom

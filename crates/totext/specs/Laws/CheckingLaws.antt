@@ -1,12 +1,13 @@
 -- The check goes along the automaton: it begins with a list, ends a list, takes a number, meets a fault, and ends with
 -- the bytes taken and the size of the text.
-use Prim.Native.Nat.{ℕ, zero, suc, ◌+◌, ◌-◌, ◌*◌, ◌/◌, ◌%◌, ◌≤◌, ◌<◌}
-use Rattle.std.specs.Prelude.{◌≡◌, refl, ◌≢◌, Bool, cond, ltb, length, get_or, drop, set, replicate}
+use Prim.Native.Nat.{ℕ, zero, suc, ◌+◌, ◌-◌, ◌/◌, ◌%◌, ◌≤◌, ◌<◌}
+use Rattle.std.specs.Prelude.{◌≡◌, refl, ◌≢◌, Bool, cond, ltb, length, get_or, drop, set, replicate, Ok, Err}
 use Rattle.std.proofs.Common.{sym, subst, ◌∙◌, take-append-drop, length-set, get_or-set_same, get_or-set_other, eq-eqb, ne_eqb, lt-ltb, le-ltb}
 use Rattle.std.proofs.Math.Path.{ap}
 use mathlib.Core.List.{List, [], ◌∷◌, ◌++◌, append_assoc}
 use native.Mathlib.Omega.{arith}
-use Rattle.answers.specs.Answers.{DONE, DEEP, GROUPS}
+use Rattle.answers.specs.Answers.{DEEP, GROUPS}
+use Rattle.answers.specs.declared.refusal.Refusal.TheVariants as why
 use Rattle.groups.specs.Groups.{number}
 use Rattle.groups.specs.Holding.{Holding}
 use Rattle.groups.specs.Reading.{Token, num, bad, tokens, State, begin, at, refused, closing, next, run, answer, scanned, list_in}
@@ -16,11 +17,11 @@ use Rattle.lists.specs.Lst.{Lst}
 use Rattle.numbers.specs.Numbered.{Numbered, Unnumbered}
 use Rattle.text.specs.Limits.{levels}
 use Rattle.text.specs.ListText.{text_of}
-use Rattle.text.specs.Text.{Answer, done, refusal}
-use Rattle.totext.specs.declared.check.Checked.{Checked}
-use Rattle.totext.specs.declared.check.Place.{Place}
-use Rattle.totext.specs.Checking.{place, stopped, checked, around, chars_in, behind_list, Checking, Passes, Checks}
+use Rattle.text.specs.Text.{done, refusal}
+use Rattle.totext.specs.declared.put.Walk.{Walk}
+use Rattle.totext.specs.Checking.{around, chars_in, Checking, Passes, Checks}
 use Rattle.totext.specs.Sizing.{numbers_of, groups_of_all, Below, chars, chars_most, chars_of_all}
+use Rattle.totext.specs.Turns.{walk, behind_list}
 use Rattle.totext.specs.Laws.SizingLaws.{numbers_groups, numbers_below, text-size}
 
 -- ---- the numbers of a list that is held
@@ -81,24 +82,17 @@ atom-first v j ts e =
     ap (λ (b : Bool). answer (run (cond b (refused GROUPS) (closing (v / 2 ∷ []) j)) ts)) (eq-eqb (v % 2) 0 e) ∙ ap answer (rests_refused GROUPS ts)
 
 -- ---- the beginning
-pub refuses : (s : List ℕ) (f : ℕ) {r : Checked} → f ≢ DONE → scanned s ≡ refusal f → r ≡ checked f 0 0 → Checks s r
-refuses s f n e g = rw g (record {
-  answer = sym (ap (λ (a : Answer). a.no) e);
-  taken = sym (ap (λ (a : Answer). a.taken) e);
-  size = λ z. absurd (n z);
-})
-
 module _ (s : List ℕ) where
-  pub no_number : {r : Checked} → Unnumbered (tokens (drop 0 s)) → r ≡ checked GROUPS 0 0 → Checks s r
+  pub no_number : Unnumbered (tokens (drop 0 s)) → Checks s (Err why.Groups)
   unfolding scanned
-  no_number n = refuses s GROUPS (λ z. omega arith) (none_first (tokens s) n)
+  no_number n = none_first (tokens s) n
 
   module _ {v j : ℕ} (n : Numbered s 0 v j) where
-    pub no_list : {r : Checked} → v % 2 ≡ 0 → r ≡ checked GROUPS 0 0 → Checks s r
+    pub no_list : v % 2 ≡ 0 → Checks s (Err why.Groups)
     unfolding scanned
-    no_list e = refuses s GROUPS (λ z. omega arith) (ap (λ (ts : List Token). answer (run begin ts)) n.is ∙ atom-first v (j - 0) (tokens (drop j s)) e)
+    no_list e = ap (λ (ts : List Token). answer (run begin ts)) n.is ∙ atom-first v (j - 0) (tokens (drop j s)) e
 
-    pub check-begins : (k : ℕ) → v % 2 ≢ 0 → k ≡ chars v → k ≤ chars_most → Checking s (replicate levels 0) (place j k 1 (v / 2))
+    pub check-begins : (k : ℕ) → v % 2 ≢ 0 → k ≡ chars v → k ≤ chars_most → Checking s (replicate levels 0) (walk j k 1 (v / 2))
     unfolding chars_in
     check-begins k o e most =
         let back : j - 0 ≡ j = omega arith in
@@ -114,21 +108,11 @@ module _ (s : List ℕ) where
         }
 
 -- ---- a turn
-went : (s next : List ℕ) (p r : Place) → r.fault ≡ DONE → Checking s next r → 1 ≤ r.depth → 2 * p.at + r.depth < 2 * r.at + p.depth
-    → Passes s p next r
-went s next p r z c o l = record { goes = λ e. (c, o, l); stops = λ n. absurd (n z) }
-
-met : (s next : List ℕ) (p : Place) (f : ℕ) → f ≢ DONE → scanned s ≡ refusal f → Passes s p next (stopped f)
-met s next p f n e = record { goes = λ z. absurd (n z); stops = λ z. e }
-
-abbrev at_place : ℕ → ℕ → ℕ → ℕ → ℕ → Place
-at_place i k d n f = record { at = i; size = k; depth = d; left = n; fault = f }
-
 -- the end of a list
-shut_goes : (s kept : List ℕ) (i k d n : ℕ) (f : ℕ) → Checking s kept (at_place i k d n f) → 1 ≤ d → n ≡ 0
-    → Checking s kept (at_place i k (d - 1) (get_or kept (d - 1) 0) f)
-shut_goes s kept i k zero n f c l z = absurd (omega arith)
-shut_goes s kept i k (suc zero) n f c l z = record {
+shut_goes : (s kept : List ℕ) (i k d n : ℕ) → Checking s kept (walk i k d n) → 1 ≤ d → n ≡ 0
+    → Checking s kept (walk i k (d - 1) (get_or kept (d - 1) 0))
+shut_goes s kept i k zero n c l z = absurd (omega arith)
+shut_goes s kept i k (suc zero) n c l z = record {
   runs = c.runs ∙ ap (λ (x : ℕ). run (closing (x ∷ []) i) (tokens (drop i s))) z;
   sum = c.sum;
   few = c.few;
@@ -137,9 +121,9 @@ shut_goes s kept i k (suc zero) n f c l z = record {
   wide = c.wide;
   low = omega arith;
 }
-shut_goes s kept i k (suc (suc d)) n f c l z =
+shut_goes s kept i k (suc (suc d)) n c l z =
     let e : suc (suc d) - 1 ≡ suc d = omega arith in
-    subst (λ (x : ℕ). Checking s kept (at_place i k x (get_or kept x 0) f)) (sym e) (record {
+    subst (λ (x : ℕ). Checking s kept (walk i k x (get_or kept x 0))) (sym e) (record {
       runs = c.runs ∙ ap (λ (x : ℕ). run (closing (x ∷ around kept (suc d)) i) (tokens (drop i s))) z;
       sum = c.sum;
       few = c.few;
@@ -150,7 +134,7 @@ shut_goes s kept i k (suc (suc d)) n f c l z =
     })
 
 -- the number v, which takes the bytes from i up to j and for which x characters are counted
-module _ (s kept : List ℕ) (i k f v j x : ℕ) (N : Numbered s i v j) (is : x ≡ chars v) (most : x ≤ chars_most) where
+module _ (s kept : List ℕ) (i k v j x : ℕ) (N : Numbered s i v j) (is : x ≡ chars v) (most : x ≤ chars_most) where
   counts : chars_in (tokens s) ≡ k + chars_in (tokens (drop i s)) → chars_in (tokens s) ≡ k + x + chars_in (tokens (drop j s))
   unfolding chars_in
   counts e = omega (arith, ap chars_in N.is)
@@ -162,12 +146,12 @@ module _ (s kept : List ℕ) (i k f v j x : ℕ) (N : Numbered s i v j) (is : x 
   behind : i + (j - i) ≡ j
   behind = omega (arith, N.on)
 
-  atom_goes : (d n : ℕ) → Checking s kept (at_place i k d n f) → 1 ≤ d → n ≢ 0 → v % 2 ≡ 0 → Checking s kept (place j (k + x) d (n - 1))
+  atom_goes : (d n : ℕ) → Checking s kept (walk i k d n) → 1 ≤ d → n ≢ 0 → v % 2 ≡ 0 → Checking s kept (walk j (k + x) d (n - 1))
   atom_goes zero n c l z e = absurd (omega arith)
   atom_goes (suc d) zero c l z e = absurd (z refl)
   atom_goes (suc d) (suc n) c l z e =
       let less : suc n - 1 ≡ n = omega arith in
-      subst (λ (y : ℕ). Checking s kept (place j (k + x) (suc d) y)) (sym less) (record {
+      subst (λ (y : ℕ). Checking s kept (walk j (k + x) (suc d) y)) (sym less) (record {
         runs = reads (around kept d) n (closing (n ∷ around kept d) j) c.runs
             (passes n (around kept d) i v (j - i) e ∙ ap (closing (n ∷ around kept d)) behind);
         sum = counts c.sum;
@@ -183,16 +167,16 @@ module _ (s kept : List ℕ) (i k f v j x : ℕ) (N : Numbered s i v j) (is : x 
       ap (λ (y : ℕ). y ∷ around (set kept (suc d) n) d) (get_or-set_same kept (suc d) n 0 (omega arith))
       ∙ ap (λ (t : List ℕ). n ∷ t) (around-kept kept (suc d) d n (omega arith))
 
-  list_goes : (d n : ℕ) → Checking s kept (at_place i k d n f) → 1 ≤ d → n ≢ 0 → v % 2 ≢ 0 → d < levels
-      → Checking s (set kept d (n - 1)) (place j (k + x) (d + 1) (v / 2))
+  list_goes : (d n : ℕ) → Checking s kept (walk i k d n) → 1 ≤ d → n ≢ 0 → v % 2 ≢ 0 → d < levels
+      → Checking s (set kept d (n - 1)) (walk j (k + x) (d + 1) (v / 2))
   list_goes zero n c l z e h = absurd (omega arith)
   list_goes (suc d) zero c l z e h = absurd (z refl)
   list_goes (suc d) (suc n) c l z e h =
       let less : suc n - 1 ≡ n = omega arith in
       let more : suc d + 1 ≡ suc (suc d) = omega arith in
       let short : length (n ∷ around kept d) < levels = omega (arith, around-length kept d) in
-      subst (λ (y : ℕ). Checking s (set kept (suc d) y) (place j (k + x) (suc d + 1) (v / 2))) (sym less)
-      (subst (λ (y : ℕ). Checking s (set kept (suc d) n) (place j (k + x) y (v / 2))) (sym more) (record {
+      subst (λ (y : ℕ). Checking s (set kept (suc d) y) (walk j (k + x) (suc d + 1) (v / 2))) (sym less)
+      (subst (λ (y : ℕ). Checking s (set kept (suc d) n) (walk j (k + x) y (v / 2))) (sym more) (record {
         runs = reads (around kept d) n (closing (v / 2 ∷ (n ∷ around kept d)) j) c.runs
             (opens n (around kept d) i v (j - i) e short ∙ ap (closing (v / 2 ∷ (n ∷ around kept d))) behind)
             ∙ ap (λ (t : List ℕ). run (closing (v / 2 ∷ t) j) (tokens (drop j s))) (sym (kept_here d n c.wide h));
@@ -204,7 +188,7 @@ module _ (s kept : List ℕ) (i k f v j x : ℕ) (N : Numbered s i v j) (is : x 
         low = omega arith;
       }))
 
-  deep_stops : (d n : ℕ) → Checking s kept (at_place i k d n f) → 1 ≤ d → n ≢ 0 → v % 2 ≢ 0 → levels ≤ d → scanned s ≡ refusal DEEP
+  deep_stops : (d n : ℕ) → Checking s kept (walk i k d n) → 1 ≤ d → n ≢ 0 → v % 2 ≢ 0 → levels ≤ d → scanned s ≡ refusal DEEP
   unfolding scanned
   deep_stops zero n c l z e h = absurd (omega arith)
   deep_stops (suc d) zero c l z e h = absurd (z refl)
@@ -212,53 +196,45 @@ module _ (s kept : List ℕ) (i k f v j x : ℕ) (N : Numbered s i v j) (is : x 
       ap answer (reads (around kept d) n (refused DEEP) c.runs
       (too_deep_lem n (around kept d) i v (j - i) e (omega (arith, around-length kept d))) ∙ rests_refused DEEP (tokens (drop j s)))
 
-none-stops : (s kept : List ℕ) (i k d n f : ℕ) → Checking s kept (at_place i k d n f) → 1 ≤ d → n ≢ 0 → Unnumbered (tokens (drop i s)) → scanned s ≡ refusal GROUPS
+none-stops : (s kept : List ℕ) (i k d n : ℕ) → Checking s kept (walk i k d n) → 1 ≤ d → n ≢ 0 → Unnumbered (tokens (drop i s)) → scanned s ≡ refusal GROUPS
 unfolding scanned
-none-stops s kept i k zero n f c l z u = absurd (omega arith)
-none-stops s kept i k (suc d) zero f c l z u = absurd (z refl)
-none-stops s kept i k (suc d) (suc n) f c l z u = ap answer c.runs ∙ unread n (around kept d) i (tokens (drop i s)) u
+none-stops s kept i k zero n c l z u = absurd (omega arith)
+none-stops s kept i k (suc d) zero c l z u = absurd (z refl)
+none-stops s kept i k (suc d) (suc n) c l z u = ap answer c.runs ∙ unread n (around kept d) i (tokens (drop i s)) u
 
-module _ {s kept : List ℕ} {p : Place} (c : Checking s kept p) (some : 1 ≤ p.depth) where
-  pub shut_on : p.left ≡ 0 → {r : Place} → r ≡ behind_list kept p → Checking s kept r
-  shut_on z e = subst (Checking s kept) (sym e) (shut_goes s kept p.at p.size p.depth p.left p.fault c some z)
+module _ {s kept : List ℕ} {w : Walk} (c : Checking s kept w) (some : 1 ≤ w.depth) where
+  pub shut_on : w.left ≡ 0 → Checking s kept (behind_list kept w)
+  shut_on z = shut_goes s kept w.from w.to w.depth w.left c some z
 
-  module _ (z : p.left ≢ 0) where
-    pub pass_none : {r : Place} → Unnumbered (tokens (drop p.at s)) → r ≡ stopped GROUPS → Passes s p kept r
-    pass_none {r} u e =
-        subst (Passes s p kept) (sym e)
-        (met s kept p GROUPS (λ q. omega arith) (none-stops s kept p.at p.size p.depth p.left p.fault c some z u))
+  module _ (z : w.left ≢ 0) where
+    pub pass_none : Unnumbered (tokens (drop w.from s)) → Passes s w kept (Err why.Groups)
+    pass_none u = none-stops s kept w.from w.to w.depth w.left c some z u
 
-    module _ {v j : ℕ} (N : Numbered s p.at v j) {x : ℕ} (is : x ≡ chars v) (most : x ≤ chars_most) where
-      pub pass_atom : v % 2 ≡ 0 → Passes s p kept (place j (p.size + x) p.depth (p.left - 1))
+    module _ {v j : ℕ} (N : Numbered s w.from v j) {x : ℕ} (is : x ≡ chars v) (most : x ≤ chars_most) where
+      pub pass_atom : v % 2 ≡ 0 → Passes s w kept (Ok (walk j (w.to + x) w.depth (w.left - 1)))
       pass_atom e =
-          went s kept p _ refl (atom_goes s kept p.at p.size p.fault v j x N is most p.depth p.left c some z e) some (omega (arith, N.on))
+          (atom_goes s kept w.from w.to v j x N is most w.depth w.left c some z e, some, omega (arith, N.on))
 
-      pub pass_deep : {r : Place} → v % 2 ≢ 0 → levels ≤ p.depth → r ≡ stopped DEEP → Passes s p kept r
-      pass_deep {r} e l q =
-          subst (Passes s p kept) (sym q) (met s kept p DEEP (λ y. omega arith)
-          (deep_stops s kept p.at p.size p.fault v j x N is most p.depth p.left c some z e l))
+      pub pass_deep : v % 2 ≢ 0 → levels ≤ w.depth → Passes s w kept (Err why.Deep)
+      pass_deep e l = deep_stops s kept w.from w.to v j x N is most w.depth w.left c some z e l
 
-      pub pass_list : v % 2 ≢ 0 → p.depth < levels → Passes s p (set kept p.depth (p.left - 1)) (place j (p.size + x) (p.depth + 1) (v / 2))
+      pub pass_list : v % 2 ≢ 0 → w.depth < levels
+          → Passes s w (set kept w.depth (w.left - 1)) (Ok (walk j (w.to + x) (w.depth + 1) (v / 2)))
       pass_list e l =
-          went s (set kept p.depth (p.left - 1)) p _ refl
-          (list_goes s kept p.at p.size p.fault v j x N is most p.depth p.left c some z e l) (omega arith) (omega (arith, N.on))
+          (list_goes s kept w.from w.to v j x N is most w.depth w.left c some z e l, omega arith, omega (arith, N.on))
 
 -- ---- the end
-ended : (s kept : List ℕ) (i k d n f : ℕ) → Checking s kept (at_place i k d n f) → d ≡ 0 → scanned s ≡ done i
+ended : (s kept : List ℕ) (i k d n : ℕ) → Checking s kept (walk i k d n) → d ≡ 0 → scanned s ≡ done i
 unfolding scanned
-ended s kept i k zero n f c z = ap answer (c.runs ∙ rests_taken i (tokens (drop i s)))
-ended s kept i k (suc d) n f c z = absurd (omega arith)
+ended s kept i k zero n c z = ap answer (c.runs ∙ rests_taken i (tokens (drop i s)))
+ended s kept i k (suc d) n c z = absurd (omega arith)
 
-pub check-size : {s kept : List ℕ} {p : Place} → Checking s kept p → p.depth ≡ 0 → p.size ≡ length (text_of (list_in s)) + 1
-check-size {s} {kept} {p} c z =
-    let e = ended s kept p.at p.size p.depth p.left p.fault c z in
-    omega (arith, c.sum, held-chars s p.at (list_in s) (scanned_holds s p.at e).0)
+module _ {s kept : List ℕ} {w : Walk} (c : Checking s kept w) (z : w.depth ≡ 0) where
+  taken : scanned s ≡ done w.from
+  taken = ended s kept w.from w.to w.depth w.left c z
 
-pub check_ends : {s kept : List ℕ} {p : Place} → Checking s kept p → p.depth ≡ 0 → Checks s (checked DONE p.at (p.size - 1))
-check_ends {s} {kept} {p} c z =
-    let e = ended s kept p.at p.size p.depth p.left p.fault c z in
-    record {
-      answer = sym (ap (λ (a : Answer). a.no) e);
-      taken = sym (ap (λ (a : Answer). a.taken) e);
-      size = λ y. omega (arith, check-size c z);
-    }
+  pub check-size : w.to ≡ length (text_of (list_in s)) + 1
+  check-size = omega (arith, c.sum, held-chars s w.from (list_in s) (scanned_holds s w.from taken).0)
+
+  pub check_ends : Checks s (Ok (record { taken = w.from; size = w.to - 1 }))
+  check_ends = (taken, omega (arith, check-size))

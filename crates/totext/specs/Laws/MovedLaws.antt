@@ -5,7 +5,10 @@ use Rattle.std.proofs.Math.Path.{ap}
 use Rattle.std.proofs.Math.Seq.{paste}
 use Rattle.answers.specs.Answers.{DONE, OUTPUT, moved, not_moved}
 use Rattle.answers.specs.Laws.Unless.{goes_on_lem, refuses}
+use Rattle.answers.specs.Laws.Refusals.{refusal_some}
+use Rattle.answers.specs.Refusals.{refusal_no}
 use Rattle.answers.specs.declared.Moved.{Moved}
+use Rattle.answers.specs.declared.refusal.Refusal.{Refusal}
 use Rattle.calls.specs.Promised.{Moves}
 use Rattle.calls.specs.Entry.{over}
 use Rattle.calls.specs.Move.{Move, left_alone, put_out, moved_from}
@@ -16,13 +19,11 @@ use Rattle.groups.specs.Laws.SizeLaws.{right-size, wrong_size}
 use Rattle.groups.specs.Laws.Taking.{taken_holds}
 use Rattle.lists.specs.Lst.{Lst}
 use Rattle.text.specs.ListText.{text_of, written}
-use Rattle.text.specs.Text.{Answer, done}
+use Rattle.text.specs.Text.{Answer, done, refusal}
 use Rattle.text.specs.Writing.{usable}
 use Rattle.text.specs.Laws.WritingLaws.{writes, overflows}
 use Rattle.writing.specs.RecordEnd.{record_end}
 use Rattle.writing.specs.Laws.WroteLaws.{filled-whole}
-use Rattle.totext.specs.declared.check.Checked.{Checked}
-use Rattle.totext.specs.Checking.{Checks}
 
 -- a move that writes nothing
 nothing : {xs : List ℕ} {q : Move} {r : Moved} (n : ℕ) → q ≡ left_alone n xs → r ≡ not_moved n → Moves r xs q
@@ -45,16 +46,6 @@ module _ (s : List ℕ) (m : ℕ) (e : verdict s ≡ done m) (xs : List ℕ) {r 
       rw (goes_on_lem (judged Text (length xs) l) (λ (k : ℕ). left_alone k xs) (record { answer = DONE; taken = m; written = length (written l); output = over (written l) xs }) j)
       (record { moved = g ∙ ap (moved DONE m) w.0; output = w.1 })
 
--- the check of bytes whose size is right
-module _ (s : List ℕ) (z : size_fault s ≡ DONE) {c : Checked} (e : Checks s c) where
-  told : (verdict s).no ≡ c.answer
-  told = ap (λ (a : Answer). a.no) (right-size s z) ∙ sym e.answer
-
-  pub check-taken : c.answer ≡ DONE → verdict s ≡ done c.taken
-  check-taken y =
-      let none : (scanned s).no ≡ DONE = sym e.answer ∙ y in
-      right-size s z ∙ (λ i. record { no = none i; taken = sym e.taken i })
-
 -- a call
 module _ (s xs : List ℕ) {r : Moved} where
   refused_with : (n : ℕ) → n ≢ DONE → (verdict s).no ≡ n → r ≡ not_moved n → Moves r xs (moved_from Groups s xs)
@@ -65,8 +56,10 @@ module _ (s xs : List ℕ) {r : Moved} where
   pub size-refused : (n : ℕ) → n ≡ size_fault s → n ≢ DONE → r ≡ not_moved n → Moves r xs (moved_from Groups s xs)
   size-refused n e z g = refused_with n z (ap (λ (a : Answer). a.no) (wrong_size s (λ y. z (e ∙ y))) ∙ sym e) g
 
-  pub check-refused : size_fault s ≡ DONE → {c : Checked} → Checks s c → c.answer ≢ DONE → r ≡ not_moved c.answer → Moves r xs (moved_from Groups s xs)
-  check-refused z {c} e y g = refused_with c.answer y (told s z e) g
+  pub check-refused : size_fault s ≡ DONE → (f : Refusal) → scanned s ≡ refusal (refusal_no f) → r ≡ not_moved (refusal_no f)
+      → Moves r xs (moved_from Groups s xs)
+  check-refused z f e g =
+      refused_with (refusal_no f) (refusal_some f) (ap (λ (a : Answer). a.no) (right-size s z ∙ e)) g
 
   pub moved-taken : (m : ℕ) {zs : List ℕ} → verdict s ≡ done m → Moves r zs (put_out Text m (list_in s) xs) → Moves r zs (moved_from Groups s xs)
   unfolding moved_from

@@ -1,5 +1,5 @@
 -- Writing begins with "(", goes on with the characters of a turn, and ends with the text before the old bytes.
-use Rattle.std.specs.Prelude.{ℕ, ◌+◌, ◌-◌, ◌/◌, ◌≤◌, ◌<◌, ◌≡◌, refl, List, [], ◌∷◌, ◌++◌, length, take, drop, set, get_or, replicate}
+use Rattle.std.specs.Prelude.{ℕ, ◌+◌, ◌-◌, ◌/◌, ◌≤◌, ◌<◌, ◌≡◌, refl, Some, IsSome, List, [], ◌∷◌, ◌++◌, length, take, drop, set, get_or, replicate}
 use Rattle.std.proofs.Common.{sym, ap, subst, ◌∙◌, append_assoc, append-nil, arith, take-append-drop, length-drop, take-add, drop-set-lt}
 use Rattle.std.proofs.Math.Seq.{take-length}
 use Rattle.calls.specs.Entry.{over}
@@ -18,7 +18,7 @@ use Rattle.totext.specs.declared.put.Walk.{Walk}
 use Rattle.totext.specs.Putting.{Putting}
 use Rattle.totext.specs.Standing.{Standing, Held}
 use Rattle.totext.specs.Turns.{walk, Turned, PutShut}
-use Rattle.totext.specs.Laws.NumberAt.{value_there, behind-number}
+use Rattle.numbers.specs.Laws.GroupLaws.{read_there, some_there, behind-number}
 use Rattle.totext.specs.Laws.TurnLaws.{shut_turned}
 
 -- a text has a first character
@@ -32,9 +32,12 @@ module _ {s : List ℕ} {l : Lst} (h : Held s l) where
       sym (take-append-drop h.0 s) ∙ ap (λ (t : List ℕ). t ++ drop h.0 s) h.1.bytes
       ∙ append_assoc (number (list_number l)) (elements l) (drop h.0 s)
 
-  module _ {n : Number} (q : n ≡ number_in s 0) where
+  pub first_some : IsSome (number_in s 0)
+  first_some = some_there s _ 0 (list_number l) first h.1.fits.0
+
+  module _ {n : Number} (q : Some n ≡ number_in s 0) where
     told : n ≡ record { value = list_number l; end = 0 + length (number (list_number l)) }
-    told = q ∙ value_there s _ 0 (list_number l) first h.1.fits.0
+    told = read_there s _ 0 (list_number l) first q h.1.fits.0
 
     pub first_below : n.value < numbers_end
     first_below = omega (arith, h.1.fits.0, ap (λ (x : Number). x.value) told)

@@ -5,10 +5,10 @@ use Rattle.lists.specs.Lst.{Lst, nil, atom, list, len}
 use Rattle.groups.specs.Groups.{number, elements, atom_number, list_number}
 use Rattle.groups.specs.Laws.Sizes.{number_size}
 use Rattle.numbers.specs.Laws.RaisedLaws.{one-here}
-use Rattle.writing.specs.Numeral.{numeral}
+use Rattle.octal.specs.Numeral.{numeral}
 use Rattle.writing.specs.Put.{Put}
 use Rattle.writing.specs.Steps.{comma}
-use Rattle.writing.specs.Laws.NumeralLaws.{one-digit}
+use Rattle.octal.specs.Laws.NumeralLaws.{one-digit}
 use Rattle.writing.specs.Laws.PutLaws.{put_one, put_then}
 use Rattle.totext.specs.declared.put.Walk.{Walk}
 use Rattle.totext.specs.Putting.{Ran}

@@ -4,8 +4,8 @@ use Rattle.std.proofs.Common.{sym, ap, ◌∙◌, append_assoc, arith, length-ap
 use Rattle.lists.specs.Lst.{Lst, nil, atom, list, len}
 use Rattle.groups.specs.Groups.{number, elements, groups_of, atom_number, list_number, Fit, Fits}
 use Rattle.text.specs.ListText.{octal, items, text_of}
-use Rattle.writing.specs.Numeral.{numeral}
-use Rattle.writing.specs.Laws.NumeralLaws.{one-digit}
+use Rattle.octal.specs.Numeral.{numeral}
+use Rattle.octal.specs.Laws.NumeralLaws.{one-digit}
 use Rattle.totext.specs.Sizing.{inside, numbers_of, groups_of_all, Below, chars, chars_of_all}
 
 chars-append : (vs us : List ℕ) → chars_of_all (vs ++ us) ≡ chars_of_all vs + chars_of_all us

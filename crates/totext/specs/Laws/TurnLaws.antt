@@ -1,6 +1,6 @@
 -- A turn of the writing: by the innermost list it is ")", an atom or "(", and its characters and the bytes of its
 -- number come off the front of what is to come.
-use Rattle.std.specs.Prelude.{ℕ, suc, ◌+◌, ◌-◌, ◌*◌, ◌/◌, ◌%◌, ◌≤◌, ◌<◌, ◌≡◌, refl, ◌≢◌, true, false, List, [], ◌∷◌, ◌++◌, length, drop, take, get_or, set}
+use Rattle.std.specs.Prelude.{ℕ, suc, ◌+◌, ◌-◌, ◌*◌, ◌/◌, ◌%◌, ◌≤◌, ◌<◌, ◌≡◌, refl, Some, IsSome, ◌≢◌, true, false, List, [], ◌∷◌, ◌++◌, length, drop, take, get_or, set}
 use Rattle.std.proofs.Common.{sym, ap, ◌∙◌, append_assoc, arith, length-append, length-drop, length-set, drop-drop, get_or-set_same, get_or-set_other}
 use Rattle.std.proofs.Math.Seq.{drop-append_seam, take-append_seam}
 use Rattle.lists.specs.Lst.{Lst, nil, atom, list, len, order}
@@ -11,14 +11,14 @@ use Rattle.text.specs.Limits.{levels}
 use Rattle.text.specs.ListText.{items}
 use Rattle.text.specs.Laws.OpenLists.{body, opens_body}
 use Rattle.text.specs.Laws.RoundTrip.{order_pos}
-use Rattle.writing.specs.Numeral.{numeral}
+use Rattle.octal.specs.Numeral.{numeral}
 use Rattle.writing.specs.Steps.{comma}
 use Rattle.writing.specs.Walking.{above, rest}
-use Rattle.writing.specs.Laws.NumeralLaws.{some_digits}
+use Rattle.octal.specs.Laws.NumeralLaws.{some_digits}
 use Rattle.totext.specs.declared.put.Walk.{Walk}
 use Rattle.totext.specs.Standing.{todo, Around, Sound, Levels, Standing}
 use Rattle.totext.specs.Turns.{parted, behind_shut, behind_atom, behind_open, kept_at, Turned}
-use Rattle.totext.specs.Laws.NumberAt.{value_there, behind-number}
+use Rattle.numbers.specs.Laws.GroupLaws.{read_there, some_there, behind-number}
 
 -- the elements that follow another
 follows : (l : Lst) → items false l ≡ comma (len l) ++ body l
@@ -86,18 +86,18 @@ halved : (v : ℕ) → 2 * v / 2 ≡ v
 halved v = omega arith
 
 atom_goes : (s t kept : List ℕ) (w : Walk) (n : Number) (opened : List Lst) (later : List ℕ) → Levels kept w opened → 1 ≤ w.depth → w.left ≢ 0
-    → n ≡ number_in s w.from → n.value % 2 ≡ 0 → drop w.from s ≡ todo opened ++ later → drop w.to t ≡ rest opened → w.to ≤ length t
+    → Some n ≡ number_in s w.from → n.value % 2 ≡ 0 → drop w.from s ≡ todo opened ++ later → drop w.to t ≡ rest opened → w.to ≤ length t
     → Turned s t kept w (parted (behind_atom n w)) (numeral (n.value / 2) ++ comma (w.left - 1))
 unfolding len elements Fit order numeral
 atom_goes s t kept w n [] later l some z q p e text within = absurd (omega (arith, l.deep))
 atom_goes s t kept w n (nil ∷ ls) later l some z q p e text within = absurd (z l.counted.0)
 atom_goes s t kept w n (list m k ∷ ls) later l some z q p e text within =
     let split : drop w.from s ≡ number (list_number m) ++ (((elements m ++ elements k) ++ todo ls) ++ later) = e ∙ simp append_assoc in
-    let told = q ∙ value_there s _ w.from (list_number m) split l.sound.0.0 in
+    let told = read_there s _ w.from (list_number m) split q l.sound.0.0 in
     absurd (omega (arith, ap (λ (x : Number). x.value) told))
 atom_goes s t kept w n (atom v k ∷ ls) later l some z q p e text within =
     let split : drop w.from s ≡ number (atom_number v) ++ ((elements k ++ todo ls) ++ later) = e ∙ simp append_assoc in
-    let told = q ∙ value_there s _ w.from (atom_number v) split l.sound.0.0 in
+    let told = read_there s _ w.from (atom_number v) split q l.sound.0.0 in
     let half : n.value / 2 ≡ v = ap (λ (x : Number). x.value / 2) told ∙ halved v in
     let count : w.left - 1 ≡ len k = omega (arith, l.counted.0) in
     let bs : List ℕ = numeral (n.value / 2) in
@@ -111,18 +111,18 @@ atom_goes s t kept w n (atom v k ∷ ls) later l some z q p e text within =
 
 -- "("
 opened_goes : (s t kept : List ℕ) (w : Walk) (n : Number) (opened : List Lst) (later : List ℕ) → Levels kept w opened → 1 ≤ w.depth → w.left ≢ 0
-    → n ≡ number_in s w.from → n.value % 2 ≢ 0 → drop w.from s ≡ todo opened ++ later → drop w.to t ≡ rest opened → w.to ≤ length t
+    → Some n ≡ number_in s w.from → n.value % 2 ≢ 0 → drop w.from s ≡ todo opened ++ later → drop w.to t ≡ rest opened → w.to ≤ length t
     → Turned s t (kept_at kept w) w (behind_open n w) (40 ∷ []) × (w.depth < levels)
 unfolding len elements Fit order
 opened_goes s t kept w n [] later l some z q p e text within = absurd (omega (arith, l.deep))
 opened_goes s t kept w n (nil ∷ ls) later l some z q p e text within = absurd (z l.counted.0)
 opened_goes s t kept w n (atom v k ∷ ls) later l some z q p e text within =
     let split : drop w.from s ≡ number (atom_number v) ++ ((elements k ++ todo ls) ++ later) = e ∙ simp append_assoc in
-    let told = q ∙ value_there s _ w.from (atom_number v) split l.sound.0.0 in
+    let told = read_there s _ w.from (atom_number v) split q l.sound.0.0 in
     absurd (p (omega (arith, ap (λ (x : Number). x.value) told)))
 opened_goes s t kept w n (list m k ∷ ls) later l some z q p e text within =
     let split : drop w.from s ≡ number (list_number m) ++ ((elements m ++ (elements k ++ todo ls)) ++ later) = e ∙ simp append_assoc in
-    let told = q ∙ value_there s _ w.from (list_number m) split l.sound.0.0 in
+    let told = read_there s _ w.from (list_number m) split q l.sound.0.0 in
     let half : n.value / 2 ≡ len m = omega (arith, ap (λ (x : Number). x.value) told) in
     let count : w.left - 1 ≡ len k = omega (arith, l.counted.0) in
     let y : ℕ = w.left - 1 in
@@ -146,23 +146,38 @@ opened_goes s t kept w n (list m k ∷ ls) later l some z q p e text within =
 
 -- the number of an element
 below_goes : (s kept : List ℕ) (w : Walk) (n : Number) (opened : List Lst) (later : List ℕ) → Levels kept w opened → 1 ≤ w.depth → w.left ≢ 0
-    → n ≡ number_in s w.from → drop w.from s ≡ todo opened ++ later → n.value < numbers_end
+    → Some n ≡ number_in s w.from → drop w.from s ≡ todo opened ++ later → n.value < numbers_end
 unfolding len elements Fit
 below_goes s kept w n [] later l some z q e = absurd (omega (arith, l.deep))
 below_goes s kept w n (nil ∷ ls) later l some z q e = absurd (z l.counted.0)
 below_goes s kept w n (atom v k ∷ ls) later l some z q e =
     let split : drop w.from s ≡ number (atom_number v) ++ ((elements k ++ todo ls) ++ later) = e ∙ simp append_assoc in
-    omega (arith, l.sound.0.0, ap (λ (x : Number). x.value) (q ∙ value_there s _ w.from (atom_number v) split l.sound.0.0))
+    omega (arith, l.sound.0.0, ap (λ (x : Number). x.value) (read_there s _ w.from (atom_number v) split q l.sound.0.0))
 below_goes s kept w n (list m k ∷ ls) later l some z q e =
     let split : drop w.from s ≡ number (list_number m) ++ (((elements m ++ elements k) ++ todo ls) ++ later) = e ∙ simp append_assoc in
-    omega (arith, l.sound.0.0, ap (λ (x : Number). x.value) (q ∙ value_there s _ w.from (list_number m) split l.sound.0.0))
+    omega (arith, l.sound.0.0, ap (λ (x : Number). x.value) (read_there s _ w.from (list_number m) split q l.sound.0.0))
+
+some_goes : (s kept : List ℕ) (w : Walk) (opened : List Lst) (later : List ℕ) → Levels kept w opened → 1 ≤ w.depth → w.left ≢ 0
+    → drop w.from s ≡ todo opened ++ later → IsSome (number_in s w.from)
+unfolding len elements Fit
+some_goes s kept w [] later l some z e = absurd (omega (arith, l.deep))
+some_goes s kept w (nil ∷ ls) later l some z e = absurd (z l.counted.0)
+some_goes s kept w (atom v k ∷ ls) later l some z e =
+    let split : drop w.from s ≡ number (atom_number v) ++ ((elements k ++ todo ls) ++ later) = e ∙ simp append_assoc in
+    some_there s _ w.from (atom_number v) split l.sound.0.0
+some_goes s kept w (list m k ∷ ls) later l some z e =
+    let split : drop w.from s ≡ number (list_number m) ++ (((elements m ++ elements k) ++ todo ls) ++ later) = e ∙ simp append_assoc in
+    some_there s _ w.from (list_number m) split l.sound.0.0
 
 module _ {s t kept : List ℕ} {w : Walk} (g : Standing s t kept w) (some : 1 ≤ w.depth) where
+  pub some_number : w.left ≢ 0 → IsSome (number_in s w.from)
+  some_number z = some_goes s kept w g.opened g.later g.stands some z g.groups
+
   pub shut_turned : w.left ≡ 0 → Turned s t kept w (parted (behind_shut kept w)) (41 ∷ comma (get_or kept (w.depth - 1) 0))
   shut_turned z = shut_goes s t kept w g.opened g.later g.stands some z g.groups g.text g.within
 
   -- the number n is read where elements are to come
-  module _ (z : w.left ≢ 0) {n : Number} (q : n ≡ number_in s w.from) where
+  module _ (z : w.left ≢ 0) {n : Number} (q : Some n ≡ number_in s w.from) where
     pub below : n.value < numbers_end
     below = below_goes s kept w n g.opened g.later g.stands some z q g.groups
 

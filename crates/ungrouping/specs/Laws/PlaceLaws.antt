@@ -1,16 +1,19 @@
 -- Each step of the readers is a step of the automaton.
-use Rattle.std.specs.Prelude.{ℕ, suc, ◌+◌, ◌-◌, ◌/◌, ◌%◌, ◌<◌, ◌≤◌, ◌≡◌, cond, eqb, ltb, length, drop, get_or}
+use Rattle.std.specs.Prelude.{ℕ, suc, ◌+◌, ◌-◌, ◌/◌, ◌%◌, ◌<◌, ◌≤◌, ◌≡◌, cond, eqb, ltb, length, drop, get_or, Result, Ok, Err}
 use Rattle.std.proofs.Math.Path.{refl, ap}
 use Rattle.std.proofs.Common.{subst, ◌∙◌, le_refl, le_trans, arith, lt-ltb, le-ltb, eq-eqb, ne_eqb}
 use mathlib.Core.List.{List, [], ◌∷◌}
 use Rattle.answers.specs.Answers.{DEEP, GROUPS}
-use Rattle.text.specs.Limits.{levels, text_most}
+use Rattle.answers.specs.Refusals.{refusal_no}
+use Rattle.answers.specs.declared.refusal.Refusal.{Refusal}
+use Rattle.answers.specs.declared.refusal.Refusal.TheVariants as why
+use Rattle.text.specs.Limits.{levels}
 use Rattle.text.specs.Text.{refusal}
 use Rattle.groups.specs.Reading.{Token, num, bad, tokens, begin, at, refused, closing, element, run, answer, scanned}
 use Rattle.groups.specs.Laws.RunLaws.{rests_refused, rests_taken}
 use Rattle.numbers.specs.Numbered.{Numbered, Unnumbered}
 use Rattle.numbers.specs.Laws.NumberedLaws.{one-numbered}
-use Rattle.ungrouping.specs.Places.{places_end, stopped, fault_of, Named, onward, Leads, Stops, Reads, Element, ReadsWhole, Atoms}
+use Rattle.ungrouping.specs.Places.{onward, Leads, Stops, Reads, Element, ReadsWhole, Atoms}
 
 -- ---- one place after the other
 module _ {s : List ℕ} {level : ℕ} where
@@ -29,24 +32,6 @@ module _ {s : List ℕ} {level : ℕ} where
     pub stops-on : (f : ℕ) → Stops s level j m f → Stops s level i k f
     stops-on f r = λ st d. ap answer (l.same st d) ∙ r st d
 
--- ---- what a reader gives
-done-place : {s : List ℕ} {level i k j m : ℕ} → length s ≤ text_most → Leads s level i k j m → Reads s level i k m j
-done-place few l =
-    record {
-      leads = λ e. l;
-      stops = λ e. absurd (omega (arith, l.within));
-      named = λ e. absurd (omega (arith, l.within));
-    }
-
-fault_place : {s : List ℕ} {level i k : ℕ} (m f : ℕ) → Named f → Stops s level i k f → Reads s level i k m (stopped f)
-fault_place {s} {level} {i} {k} m f n p =
-    let same : f ≡ fault_of (stopped f) = omega arith in
-    record {
-      leads = λ e. absurd (omega arith);
-      stops = λ e. subst (Stops s level i k) same p;
-      named = λ e. subst Named same n;
-    }
-
 -- ---- an element
 module _ (s : List ℕ) (level i : ℕ) where
   unread : (k : ℕ) (st : List ℕ) (ts : List Token) → Unnumbered ts → answer (run (at (suc k ∷ st) i) ts) ≡ refusal GROUPS
@@ -54,12 +39,8 @@ module _ (s : List ℕ) (level i : ℕ) where
   unread k st (bad ∷ ts) n = ap answer (rests_refused GROUPS ts)
   unread k st (num v m ∷ ts) n = absurd (n v m ts refl)
 
-  pub no_element : Unnumbered (tokens (drop i s)) → Element s level i (stopped GROUPS)
-  no_element n =
-      record {
-        takes = λ e. absurd (omega (arith, e));
-        reads = λ k. fault_place k GROUPS (omega arith, omega arith) (λ st d. unread k st (tokens (drop i s)) n);
-      }
+  pub no_element : Unnumbered (tokens (drop i s)) → Element s level i (Err why.Groups)
+  no_element n = record { takes = tt; reads = λ k st d. unread k st (tokens (drop i s)) n }
 
   module _ {v j : ℕ} (n : Numbered s i v j) where
     abbrev beyond : List Token
@@ -78,8 +59,8 @@ module _ (s : List ℕ) (level i : ℕ) where
           same = λ st d. number_read k st ∙ rw (eq-eqb (v % 2) 0 even) refl;
         }
 
-    pub atom-element : length s ≤ text_most → v % 2 ≡ 0 → Element s level i j
-    atom-element few even = record { takes = λ e. n.on; reads = λ k. done-place few (atom-leads even k) }
+    pub atom-element : v % 2 ≡ 0 → Element s level i (Ok j)
+    atom-element even = record { takes = n.on; reads = atom-leads even }
 
     module _ (odd : v % 2 ≡ 0 → ⊥) where
       -- a list is one level further in
@@ -93,38 +74,28 @@ module _ (s : List ℕ) (level i : ℕ) where
       deep_stops deep k st d =
           ap answer (list_read k st d) ∙ rw (le-ltb level levels deep) (ap answer (rests_refused DEEP beyond))
 
-      pub deep_element : levels ≤ level → Element s level i (stopped DEEP)
-      deep_element deep =
-          record {
-            takes = λ e. absurd (omega (arith, e));
-            reads = λ k. fault_place k DEEP (omega arith, omega arith) (deep_stops deep k);
-          }
+      pub deep_element : levels ≤ level → Element s level i (Err why.Deep)
+      deep_element deep = record { takes = tt; reads = deep_stops deep }
 
-      module _ (shallow : level < levels) (r : ℕ) (e : Reads s (level + 1) j (v / 2) 0 r) where
+      module _ (shallow : level < levels) where
         opened : (k : ℕ) (st : List ℕ) → suc (length st) ≡ level → onward s i (suc k) st ≡ onward s j (v / 2) (k ∷ st)
         opened k st d = list_read k st d ∙ rw (lt-ltb level levels shallow) refl
 
         inner : (st : List ℕ) (k : ℕ) → suc (length st) ≡ level → suc (length (k ∷ st)) ≡ level + 1
         inner st k d = omega (arith, d)
 
-        inside : r < places_end → (k : ℕ) → Leads s level i (suc k) r k
-        inside z k =
+        pub list_element : (r : Result ℕ Refusal) → Reads s (level + 1) j (v / 2) 0 r → Element s level i r
+        list_element (Ok r) e =
             record {
-              on = omega (arith, n.on, (e.leads z).on);
-              within = (e.leads z).within;
-              same = λ st d. opened k st d ∙ (e.leads z).same (k ∷ st) (inner st k d);
-            }
-
-        pub list_element : Element s level i r
-        list_element =
-            record {
-              takes = λ z. omega (arith, n.on, (e.leads z).on);
+              takes = omega (arith, n.on, e.on);
               reads = λ k. record {
-                leads = λ z. inside z k;
-                stops = λ z st d. ap answer (opened k st d) ∙ e.stops z (k ∷ st) (inner st k d);
-                named = e.named;
+                on = omega (arith, n.on, e.on);
+                within = e.within;
+                same = λ st d. opened k st d ∙ e.same (k ∷ st) (inner st k d);
               };
             }
+        list_element (Err f) e =
+            record { takes = tt; reads = λ k st d. ap answer (opened k st d) ∙ e (k ∷ st) (inner st k d) }
 
 -- ---- atoms of one byte each
 module _ {s : List ℕ} {i k : ℕ} where
@@ -151,23 +122,15 @@ module _ {s : List ℕ} {i k : ℕ} where
 
 -- ---- the elements of a list
 module _ {s : List ℕ} {level i k j : ℕ} where
-  pub list_done : length s ≤ text_most → Leads s level i k j 0 → Reads s level i k 0 j
-  list_done few l = done-place few l
-
-  module _ {m : ℕ} (l : Leads s level i k j m) (some : 0 < m) (r : ℕ) (e : Element s level j r) where
+  module _ {m : ℕ} (l : Leads s level i k j m) (some : 0 < m) where
     here : Leads s level i k j (suc (m - 1))
     here = let one-off : m ≡ suc (m - 1) = omega arith in subst (Leads s level i k j) one-off l
 
-    pub element-on : r < places_end → Leads s level i k r (m - 1)
-    element-on z = leads-on here ((e.reads (m - 1)).leads z)
+    pub element-on : {r : ℕ} → Element s level j (Ok r) → Leads s level i k r (m - 1)
+    element-on e = leads-on here (e.reads (m - 1))
 
-    pub element-stops : places_end ≤ r → Reads s level i k 0 r
-    element-stops n =
-        record {
-          leads = λ z. absurd (omega arith);
-          stops = λ z. stops-on here (fault_of r) ((e.reads (m - 1)).stops n);
-          named = (e.reads 0).named;
-        }
+    pub element-stops : {f : Refusal} → Element s level j (Err f) → Reads s level i k 0 (Err f)
+    element-stops {f} e = stops-on here (refusal_no f) (e.reads (m - 1))
 
 -- ---- the whole
 module _ (s : List ℕ) where
@@ -176,18 +139,9 @@ module _ (s : List ℕ) where
   unbegun (bad ∷ ts) n = ap answer (rests_refused GROUPS ts)
   unbegun (num v k ∷ ts) n = absurd (n v k ts refl)
 
-  no_list : scanned s ≡ refusal GROUPS → ReadsWhole s (stopped GROUPS)
-  no_list e =
-      record {
-        within = λ z. absurd (omega (arith, z));
-        taken = λ z. absurd (omega (arith, z));
-        refused = λ z. e;
-        named = λ z. (omega arith, omega arith);
-      }
-
-  pub whole-none : Unnumbered (tokens (drop 0 s)) → ReadsWhole s (stopped GROUPS)
+  pub whole-none : Unnumbered (tokens (drop 0 s)) → ReadsWhole s (Err why.Groups)
   unfolding scanned
-  whole-none n = no_list (unbegun (tokens s) n)
+  whole-none n = unbegun (tokens s) n
 
   module _ {v j : ℕ} (n : Numbered s 0 v j) where
     begun : run begin (tokens s) ≡ run (cond (eqb (v % 2) 0) (refused GROUPS) (closing (v / 2 ∷ []) j)) (tokens (drop j s))
@@ -196,21 +150,16 @@ module _ (s : List ℕ) where
         ap (run begin) n.is
         ∙ ap (λ (e : ℕ). run (cond (eqb (v % 2) 0) (refused GROUPS) (closing (v / 2 ∷ []) e)) (tokens (drop j s))) size
 
-    pub whole-atom : v % 2 ≡ 0 → ReadsWhole s (stopped GROUPS)
+    pub whole-atom : v % 2 ≡ 0 → ReadsWhole s (Err why.Groups)
     unfolding scanned
     whole-atom even =
-        no_list (ap answer begun ∙ rw (eq-eqb (v % 2) 0 even) (ap answer (rests_refused GROUPS (tokens (drop j s)))))
+        ap answer begun ∙ rw (eq-eqb (v % 2) 0 even) (ap answer (rests_refused GROUPS (tokens (drop j s))))
 
-    module _ (odd : v % 2 ≡ 0 → ⊥) (r : ℕ) (e : Reads s 1 j (v / 2) 0 r) where
+    module _ (odd : v % 2 ≡ 0 → ⊥) where
       opens : run begin (tokens s) ≡ onward s j (v / 2) []
       opens = begun ∙ rw (ne_eqb (v % 2) 0 odd) refl
 
-      pub whole_list : ReadsWhole s r
+      pub whole_list : (r : Result ℕ Refusal) → Reads s 1 j (v / 2) 0 r → ReadsWhole s r
       unfolding scanned
-      whole_list =
-          record {
-            within = λ z. (e.leads z).within;
-            taken = λ z. ap answer (opens ∙ (e.leads z).same [] refl ∙ rests_taken r (tokens (drop r s)));
-            refused = λ z. ap answer opens ∙ e.stops z [] refl;
-            named = e.named;
-          }
+      whole_list (Ok r) e = (e.within, ap answer (opens ∙ e.same [] refl ∙ rests_taken r (tokens (drop r s))))
+      whole_list (Err f) e = ap answer opens ∙ e [] refl

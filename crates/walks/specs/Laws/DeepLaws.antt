@@ -1,21 +1,12 @@
--- The test for a level too many: what it is at each return, and what it says.
-use Rattle.std.specs.Prelude.{ℕ, ◌≤◌, ◌<◌, ◌≡◌, ◌≢◌, Bool, true, false, not, ◌&&◌, List, eqb, leb}
-use Rattle.std.proofs.Common.{sym, eq-eqb, ne_eqb, le-leb, leb-true, leb-false}
-use Rattle.std.proofs.lemmas.Bool.{lt-leb, eqb-false, not-true}
+-- What the test for a level too many says.
+use Rattle.std.specs.Prelude.{ℕ, ◌≤◌, ◌<◌, ◌≡◌, ◌≢◌, Bool, true, false, ◌&&◌, List, eqb, leb}
+use Rattle.std.proofs.Common.{sym, ne_eqb, leb-true, leb-false}
+use Rattle.std.proofs.lemmas.Bool.{eqb-false, not-true}
 use Rattle.pool.specs.Pool.{Cell, kind_of}
 use Rattle.pool.specs.Laws.CheckInv.{and_both}
 use Rattle.text.specs.Limits.{levels}
 use Rattle.text.specs.Laws.TextLaws.{by_case, decide, no_yes}
 use Rattle.walks.specs.Levels.{opens_at}
-
-pub not_full : (cs : List Cell) (d x : ℕ) → d < levels → false ≡ (leb levels d && opens_at cs x)
-not_full cs d x l = rw (lt-leb levels d l)
-
-pub shuts-there : (cs : List Cell) (d x : ℕ) → levels ≤ d → x ≡ 0 → false ≡ (leb levels d && opens_at cs x)
-shuts-there cs d x l e = rw (le-leb levels d l, eq-eqb x 0 e)
-
-pub opens_there : (cs : List Cell) (d x k : ℕ) → levels ≤ d → x ≢ 0 → k ≡ kind_of cs x → not (eqb k 0) ≡ (leb levels d && opens_at cs x)
-opens_there cs d x k l n e = rw (le-leb levels d l, ne_eqb x 0 n, e)
 
 opens_told : (cs : List Cell) (x : ℕ) → opens_at cs x ≡ true → (x ≢ 0) × (kind_of cs x ≢ 0)
 opens_told cs x =

@@ -1,10 +1,9 @@
--- Bytes put one after another: one, none, two runs, a store copied, blanks filled in.
-use Rattle.std.specs.Prelude.{ℕ, zero, suc, ◌+◌, ◌-◌, ◌≤◌, ◌<◌, ◌≡◌, refl, List, [], ◌∷◌, ◌++◌, ◌≢◌, length, take, drop, set, get_or, replicate}
+-- Bytes put one after another: one, none, two runs, a store copied.
+use Rattle.std.specs.Prelude.{ℕ, zero, suc, ◌+◌, ◌-◌, ◌≤◌, ◌<◌, ◌≡◌, refl, List, [], ◌∷◌, ◌++◌, ◌≢◌, length, take, drop, set}
 use Rattle.std.proofs.Common.{sym, ap, subst, ◌∙◌, append-nil, append_assoc, arith, add-one, length-set, length-append, take-suc-set, drop-set-lt, take-take, length-take-le, drop-drop}
-use Rattle.std.proofs.lemmas.List.{length-replicate, get_or-replicate, take-append-le}
-use Rattle.std.proofs.Math.Seq.{paste, paste-suc, take-append-add, length_paste_head}
+use Rattle.std.proofs.lemmas.List.{take-append-le}
+use Rattle.std.proofs.Math.Seq.{paste, take-append-add, length_paste_head}
 use Rattle.std.proofs.lemmas.List.Edits.{length-paste, drop-paste}
-use Rattle.writing.specs.Numeral.{numeral}
 use Rattle.writing.specs.Put.{Put}
 use Rattle.writing.specs.Steps.{comma}
 
@@ -30,9 +29,6 @@ put_then xs ys zs cs bs at k end p e q =
       behind = q.behind ∙ p.behind;
       room = q.room ∙ p.room;
     }
-
-pub put-value : {xs ys : List ℕ} {at end v u : ℕ} → v ≡ u → Put xs ys at end (numeral v) → Put xs ys at end (numeral u)
-put-value {xs} {ys} {at} {end} e p = subst (λ (k : ℕ). Put xs ys at end (numeral k)) e p
 
 -- "," as the last of k characters
 pub put-comma : (xs : List ℕ) (x k end : ℕ) → x ≢ 0 → length (comma x) ≤ k → k ≤ end → end ≤ length xs
@@ -66,28 +62,3 @@ put_store xs ys store bs at end k n is fits ends stored size front some =
       room = length-paste xs at store n all stored;
     } in
     subst (λ (t : List ℕ). Put xs t at end bs) (sym is) made
-
--- a turn of the loop that copies
-pub copy_step : (xs out store : List ℕ) (at i : ℕ) → at + i < length xs → i < length store → out ≡ paste xs at store i
-    → set out (at + i) (get_or store i 0) ≡ paste xs at store (i + 1)
-copy_step xs out store at i l h e =
-    ap (λ (t : List ℕ). set t (at + i) (get_or store i 0)) e ∙ paste-suc xs at store i 0 l h ∙ ap (paste xs at store) (sym (add-one i))
-
-pub copy-length : (xs out store : List ℕ) (at i : ℕ) → at + i ≤ length xs → i ≤ length store → out ≡ paste xs at store i → length out ≡ length xs
-copy-length xs out store at i l h e = ap length e ∙ length-paste xs at store i l h
-
--- a turn of the loop that fills
-pub fill_step : (xs out : List ℕ) (from to i : ℕ) → from ≤ i → i < to → to ≤ length xs → out ≡ paste xs from (replicate (to - from) 32) (i - from)
-    → set out i 32 ≡ paste xs from (replicate (to - from) 32) (i + 1 - from)
-fill_step xs out from to i l h r e =
-    let blanks : List ℕ = replicate (to - from) 32 in
-    let at : from + (i - from) ≡ i = omega arith in
-    let next : i - from + 1 ≡ i + 1 - from = omega arith in
-    let q = copy_step xs out blanks from (i - from) (omega arith) (omega (arith, length-replicate {A = ℕ} (to - from) 32)) e in
-    let b : get_or blanks (i - from) 0 ≡ 32 = get_or-replicate {A = ℕ} (to - from) (i - from) 32 0 (omega arith) in
-    ap (λ (k : ℕ). set out k 32) (sym at) ∙ ap (set out (from + (i - from))) (sym b) ∙ q ∙ ap (paste xs from blanks) next
-
-pub fill-length : (xs out : List ℕ) (from to i : ℕ) → from ≤ i → i ≤ to → to ≤ length xs → out ≡ paste xs from (replicate (to - from) 32) (i - from)
-    → length out ≡ length xs
-fill-length xs out from to i l h r e =
-    copy-length xs out (replicate (to - from) 32) from (i - from) (omega arith) (omega (arith, length-replicate {A = ℕ} (to - from) 32)) e

@@ -9,7 +9,7 @@ use Rattle.text.specs.Limits.{levels}
 use Rattle.text.specs.Laws.OpenLists.{opens_body}
 use Rattle.text.specs.Laws.TextLaws.{decide}
 use Rattle.text.specs.Writing.{judged}
-use Rattle.writing.specs.declared.walk.Walk.{Walk}
+use Rattle.walks.specs.declared.walk.Walk.{Walk}
 use Rattle.pool.specs.Operations.{list_at, Stands}
 use Rattle.writing.specs.Measures.{text_at, Fitting}
 use Rattle.writing.specs.Put.{Put, Roomy}

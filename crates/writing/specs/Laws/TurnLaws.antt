@@ -12,7 +12,7 @@ use Rattle.text.specs.ListText.{items}
 use Rattle.text.specs.Laws.OpenLists.{body, opens_body}
 use Rattle.text.specs.Laws.WritingLaws.{Plain, plain-append, plain-octal, judged-plain}
 use Rattle.walks.specs.Levels.{Levels}
-use Rattle.writing.specs.Numeral.{numeral}
+use Rattle.octal.specs.Numeral.{numeral}
 use Rattle.writing.specs.Steps.{comma}
 use Rattle.writing.specs.Walking.{above, rest, Judges}
 

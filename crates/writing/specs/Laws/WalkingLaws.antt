@@ -13,10 +13,11 @@ use Rattle.text.specs.ListText.{text_of}
 use Rattle.text.specs.Laws.OpenLists.{body, opens_body}
 use Rattle.text.specs.Writing.{judged}
 use Rattle.walks.specs.Laws.LevelLaws.{begin-levels, in_pool, shut_level, pass_level, open_level}
-use Rattle.writing.specs.declared.walk.Walk.{Walk}
-use Rattle.writing.specs.Numeral.{numeral}
-use Rattle.writing.specs.Laws.NumeralLaws.{some_digits}
-use Rattle.writing.specs.Steps.{comma, started, shut_at, pass_at, open_at, kept_at, Turn, shuts, passes, opens, MayTurn}
+use Rattle.walks.specs.declared.walk.Walk.{Walk}
+use Rattle.octal.specs.Numeral.{numeral}
+use Rattle.octal.specs.Laws.NumeralLaws.{some_digits}
+use Rattle.writing.specs.Steps.{comma, started, shut_at, pass_at, open_at, Turn, shuts, passes, opens, MayTurn}
+use Rattle.walks.specs.Steps.{kept_at}
 use Rattle.pool.specs.Operations.{list_at, Stands}
 use Rattle.writing.specs.Measures.{text_at}
 use Rattle.writing.specs.Walking.{rest, Walking, Turned}

@@ -1,5 +1,5 @@
 -- What a call that writes gives at each return, against the definition of writing.
-use Rattle.std.specs.Prelude.{ℕ, ◌+◌, ◌-◌, ◌%◌, ◌≤◌, ◌<◌, ◌≡◌, Bool, true, false, not, List, ◌++◌, length, take, drop, replicate}
+use Rattle.std.specs.Prelude.{ℕ, ◌+◌, ◌-◌, ◌%◌, ◌≤◌, ◌<◌, ◌≡◌, refl, Bool, true, false, not, List, ◌++◌, length, take, drop, replicate, Ok}
 use Rattle.std.proofs.Common.{sym, ap, subst, ◌∙◌, arith, length-append, take_all, drop-drop, le-leb}
 use Rattle.std.proofs.Math.Bool.{cond}
 use Rattle.std.proofs.lemmas.List.{length-replicate}
@@ -30,7 +30,6 @@ use Rattle.text.specs.Limits.{record_bytes, text_most}
 use Rattle.text.specs.ListText.{text_of, fill, written}
 use Rattle.text.specs.Writing.{usable, judged as judgement}
 use Rattle.text.specs.Laws.WritingLaws.{writable, writes}
-use Rattle.writing.specs.declared.walk.Measured.{Measured}
 use Rattle.pool.specs.Operations.{list_at, Stands, list_of}
 use Rattle.writing.specs.Measures.{Measures, Fitting}
 use Rattle.writing.specs.RecordEnd.{record_end}
@@ -44,12 +43,12 @@ stands p h x s e =
     subst (Stands cs) (sym e) (subst (ListAt cs (holder p h)) (sym q) there)
 
 -- what was measured can be put, and filled
-pub fitting : (cs : List Cell) (x u room : ℕ) (m : Measured) → Measures cs x u m → u ≡ usable room → m.answer ≡ 0 → Fitting cs x m.size × (record_end m.size ≤ room) × (record_end m.size ≤ text_most)
-fitting cs x u room m g e z =
+pub fitting : (cs : List Cell) (x u room n : ℕ) → Measures cs x u (Ok n) → u ≡ usable room → Fitting cs x n × (record_end n ≤ room) × (record_end n ≤ text_most)
+fitting cs x u room n g e =
     let l : Lst = list_at cs x in
-    let w = writable u l (sym g.answer ∙ z) in
-    let n : m.size ≡ length (text_of l) = g.size z in
-    (record { size = n; fits = writes m.size l w.0 (omega arith); short = omega (arith, w.1) }, omega (arith, w.1), omega (arith, w.1))
+    let w = writable u l (sym g.answer) in
+    let k : n ≡ length (text_of l) = g.size in
+    (record { size = k; fits = writes n l w.0 (omega arith); short = omega (arith, w.1) }, omega (arith, w.1), omega (arith, w.1))
 
 -- blanks behind a text
 filled : (t xs bs : List ℕ) (k : ℕ) → length bs ≡ k → paste (over t xs) (length t) bs k ≡ over (t ++ bs) xs
@@ -79,16 +78,16 @@ pub as_stored : {r : Outcome} {zs : List ℕ} (l : Lst) (ws xs : List ℕ) {b k 
 as_stored {r} {zs} l ws xs e w = subst (λ (x : Stored). Writes r ws zs (write_list x l ws xs)) (sym e) w
 
 -- the text of the list l, filled
-pub text-done : (l : Lst) (ws xs : List ℕ) {r : Outcome} (out zs : List ℕ) (n e : ℕ) → judgement (usable (length xs)) 0 (text_of l) ≡ 0 → n ≡ length (text_of l) → e ≡ record_end n → out ≡ over (text_of l) xs
-    → zs ≡ paste out n (replicate (e - n) 32) (e - n) → r ≡ done e → Writes r ws zs (write_list Text l ws xs)
-text-done l ws xs out zs n e j m c o f g =
+pub text-done : (l : Lst) (ws xs out zs : List ℕ) (n e : ℕ) → judgement (usable (length xs)) 0 (text_of l) ≡ 0 → n ≡ length (text_of l) → e ≡ record_end n → out ≡ over (text_of l) xs
+    → zs ≡ paste out n (replicate (e - n) 32) (e - n) → Writes (done e) ws zs (write_list Text l ws xs)
+text-done l ws xs out zs n e j m c o f =
     let w = filled-whole l xs out zs n e m c o f in
-    list_done Text l ws xs zs e j w.0 w.1 g
+    list_done Text l ws xs zs e j w.0 w.1 refl
 
-pub entry-refused : (f : Form) (b : Stored) (ts ws : List ℕ) (h : ℕ) (xs : List ℕ) {r : Outcome} {n : ℕ} → TurnedAway work_words f ts (length ws) n → r ≡ refused n → Writes r ws xs (writing_in f b ts ws h xs)
+pub entry-refused : (f : Form) (b : Stored) (ts ws : List ℕ) (h : ℕ) (xs : List ℕ) {n : ℕ} → TurnedAway work_words f ts (length ws) n → Writes (refused n) ws xs (writing_in f b ts ws h xs)
 unfolding writing_in
-entry-refused f b ts ws h xs k g =
-    nothing (entry_fault work_words f ts (length ws)) (refuses (entry_fault work_words f ts (length ws)) (λ (n : ℕ). not_written n ws xs) _ k.some) (g ∙ ap refused k.is)
+entry-refused f b ts ws h xs k =
+    nothing (entry_fault work_words f ts (length ws)) (refuses (entry_fault work_words f ts (length ws)) (λ (n : ℕ). not_written n ws xs) _ k.some) (ap refused k.is)
 
 -- the form of the shape is the form that was named
 pub of_form : {f g : Form} (b : Stored) (ts ws : List ℕ) (h : ℕ) (xs : List ℕ) {r : Outcome} {us zs : List ℕ} → g ≡ f → Writes r us zs (writing_in g b ts ws h xs) → Writes r us zs (writing_in f b ts ws h xs)
@@ -108,8 +107,8 @@ module _ (b : Stored) {s : Shape} {ts : List ℕ} (ws : List ℕ) (h : ℕ) (xs 
       goes_on_lem (entry_fault work_words s.form ts (length ws)) (λ (n : ℕ). not_written n ws xs) _ (passed o.table work_words (length ws) o.long)
       ∙ (λ i. cond (e i) (not_written HOLDER ws xs) onward)
 
-  pub no_holder_lem : s.holders ≤ h → {r : Outcome} → r ≡ refused HOLDER → Writes r ws xs (writing_in s.form b ts ws h xs)
-  no_holder_lem l g = nothing HOLDER (enters (le-leb (holder_count (shape_of s.form ts)) h (omega (arith, held_by)))) g
+  pub no_holder_lem : s.holders ≤ h → Writes (refused HOLDER) ws xs (writing_in s.form b ts ws h xs)
+  no_holder_lem l = nothing HOLDER (enters (le-leb (holder_count (shape_of s.form ts)) h (omega (arith, held_by)))) refl
 
   module _ (l : h < s.holders) {us : List ℕ} {c : Bool} (d : Decided s ts ws us c) where
     goes : {a : Bool} → not c ≡ a → writing_in s.form b ts ws h xs ≡ cond a (not_written UNSOUND us xs) (write_list b (list_of (view s ts) h) us xs)
@@ -118,8 +117,8 @@ module _ (b : Stored) {s : Shape} {ts : List ℕ} (ws : List ℕ) (h : ℕ) (xs 
         enters (lt-leb (holder_count (shape_of s.form ts)) h (omega (arith, held_by)))
         ∙ (λ i. cond ((j.0 ∙ e) i) (not_written UNSOUND (sym j.1 i) xs) (write_list b (list_of (view (table_shape s ts o.table i) ts) h) (sym j.1 i) xs))
 
-    pub not_sound : not c ≡ true → {r : Outcome} → r ≡ refused UNSOUND → Writes r us xs (writing_in s.form b ts ws h xs)
-    not_sound e g = nothing UNSOUND (goes e) g
+    pub not_sound : not c ≡ true → Writes (refused UNSOUND) us xs (writing_in s.form b ts ws h xs)
+    not_sound e = nothing UNSOUND (goes e) refl
 
     -- the list at x, which the holder names
     pub accepted : not c ≡ false → {x : ℕ} {r : Outcome} {zs : List ℕ} → x ≡ holder (view s ts) h → Writes r us zs (write_list b (list_at (view s ts).cells x) us xs)

@@ -1,5 +1,5 @@
 -- `answering::free::free_cells` meets its contract.
-use mathlib.Core.Path.{sym, ap, subst, ◌∙◌}
+use Rattle.std.proofs.Common.{sym, ap, subst, ◌∙◌}
 use Rattle.table.specs.declared.Form.TheVariants.{Four}
 use Rattle.table.specs.declared.Shape.{Shape}
 use Rattle.table.specs.View.{Table}

@@ -1,15 +1,13 @@
-use Prim.Native.Nat.{◌<◌}
-use mathlib.Core.Path.{sym, ◌∙◌}
-use mathlib.Core.Logic.{◌≢◌}
-use native.Mathlib.Omega.{arith}
-use Rattle.answers.specs.Answers.{DEEP, OUTPUT}
+use Rattle.std.specs.Prelude.{◌<◌, ◌≢◌}
+use Rattle.std.proofs.Common.{sym, ◌∙◌, arith}
+use Rattle.answers.specs.declared.refusal.Refusal.TheVariants.{Deep, Output}
 use Rattle.grouping.specs.Walking.{Turned}
 use Rattle.grouping.specs.Laws.MeasureLaws.{refuses, begins_count, some_turns, sizes}
 use Rattle.grouping.specs.Laws.TurnLaws.{turned}
 use Rattle.grouping.specs.Laws.WalkingLaws.{no_room, begins, goes_on_lem, overflows, less, too_deep_lem, at-cell, may_turn}
 use Rattle.pool.specs.Operations.{list_at}
 use Rattle.pool.specs.Pool.{kind_of}
-use Rattle.table.specs.View.{view}
+use Rattle.cells.specs.Views.{pool_of}
 use Rattle.text.specs.Limits.{levels}
 use Rattle.walks.specs.Laws.DeepLaws.{full, roomy}
 use Rattle.walks.specs.Laws.LevelLaws.{ahead, left_of, span_of}
@@ -20,71 +18,62 @@ use Rattle.grouping.proofs.walk.measure.Goals as goal
 room : (c : After-after-1) →
     let a = c.args in
     let w = c.loop-w.w in
-    w.at ≢ 0 → kind_of (view a.s a.t.now).cells w.at ≢ 0 → w.depth < levels
+    w.at ≢ 0 → kind_of (pool_of a.t).cells w.at ≢ 0 → w.depth < levels
 room c =
     roomy _ _ _ (sym c.too_deep.ensures ∙ c.if-too_deep.false)
 
 went : (c : After-step-w) →
     let a = c.args in
     let w = c.loop-w.w in
-    (w.at ≢ 0 → kind_of (view a.s a.t.now).cells w.at ≢ 0 → w.depth < levels) →
-    Turned (view a.s a.t.now).cells c.loop-w.invariant.opened c.step-w.new.after c.loop-w.w c.step-w.result c.step-w.ensures.0
+    (w.at ≢ 0 → kind_of (pool_of a.t).cells w.at ≢ 0 → w.depth < levels) →
+    Turned (pool_of a.t).cells c.loop-w.invariant.opened c.step-w.new.after c.loop-w.w c.step-w.result c.step-w.ensures.0
 went c r =
     let p = c.loop-w in
     turned _ p.after p.w p.invariant.opened p.invariant.walks.stands (omega arith) _ c.step-w.result _ r c.step-w.ensures.1
 
 pub of_list-first-requires : goal.of_list-first-requires
 of_list-first-requires c =
-    record { table = c.requires.table; left = left_of _ _ _ (ahead _ _ c.requires.stands) }
+    left_of _ _ _ (ahead _ _ c.requires.stands)
 
 pub returns-then-first-usable : goal.returns-then-first-usable
 returns-then-first-usable c =
     let a = c.args in
-    let cs = (view a.s a.t.now).cells in
-    refuses cs a.x a.usable OUTPUT _ (no_room cs a.x c.requires.stands c.of_list-first.result a.usable c.of_list-first.ensures c.if-first-usable.true)
-    (λ q. omega arith) c.refused.ensures
+    let cs = (pool_of a.t).cells in
+    refuses cs a.x a.usable Output (no_room cs a.x c.requires.stands c.of_list-first.result a.usable c.of_list-first.ensures c.if-first-usable.true)
 
 pub loop-w-init : goal.loop-w-init
 loop-w-init c =
     let a = c.args in
     begins_count _ _ _ _ _
-    (begins (view a.s a.t.now).cells a.x c.requires.stands c.of_list-first.result a.usable _ c.of_list-first.ensures c.if-first-usable.false
+    (begins (pool_of a.t).cells a.x c.requires.stands c.of_list-first.result a.usable _ c.of_list-first.ensures c.if-first-usable.false
     c.started-w.ensures)
 
 pub too_deep-requires : goal.too_deep-requires
 too_deep-requires c =
-    let table = c.requires.table in
     let p = c.loop-w in
-    record {
-      table = table;
-      cell = at-cell _ _ _ p.after p.w p.invariant.opened p.invariant.walks (omega arith) _ table.measured;
-    }
+    at-cell _ _ _ p.after p.w p.invariant.opened p.invariant.walks (omega arith) _ c.args.t.table.measured
 
 pub returns-then-too_deep : goal.returns-then-too_deep
 returns-then-too_deep c =
     let p = c.loop-w in
     let q = full _ _ _ (sym c.too_deep.ensures ∙ c.if-too_deep.true) in
-    refuses _ _ _ DEEP _ (too_deep_lem _ _ _ p.after p.w p.invariant.opened p.invariant.walks (omega arith) q.1 q.2 q.0) (λ z. omega arith) c.refused-then-too_deep.ensures
+    refuses _ _ _ Deep (too_deep_lem _ _ _ p.after p.w p.invariant.opened p.invariant.walks (omega arith) q.1 q.2 q.0)
 
 pub overflow_add-turns : goal.overflow_add-turns
 overflow_add-turns c =
     let a = c.args in
-    let cs = (view a.s a.t.now).cells in
-    omega (arith, c.loop-w.invariant.count, c.bottom-turns.ensures.1, (span_of cs a.x (list_at cs a.x) (ahead cs a.x c.requires.stands)).1, c.requires.table.few)
+    let cs = (pool_of a.t).cells in
+    omega (arith, c.loop-w.invariant.count, c.bottom-turns.ensures.1, (span_of cs a.x (list_at cs a.x) (ahead cs a.x c.requires.stands)).1, c.args.t.table.few)
 
 pub step-w-requires : goal.step-w-requires
 step-w-requires c =
     let p = c.loop-w in
-    record {
-      table = c.requires.table;
-      may_turn = may_turn _ _ _ p.after p.w p.invariant.opened p.invariant.walks (omega arith) _ c.requires.table.measured c.requires.usable_le_text_most (room c);
-    }
+    may_turn _ _ _ p.after p.w p.invariant.opened p.invariant.walks (omega arith) _ c.args.t.table.measured c.requires.usable_le_text_most (room c)
 
 pub returns-then-w-usable : goal.returns-then-w-usable
 returns-then-w-usable c =
     let p = c.loop-w in
-    refuses _ _ _ OUTPUT _ (overflows _ _ _ p.after p.w p.invariant.opened p.invariant.walks (omega arith) _ _ _ (went (goal.at.returns-then-w-usable c).After-step-w (room (goal.at.returns-then-w-usable c).After-after-1)) c.if-w-usable.true) (λ q. omega arith)
-    c.refused-then-w-usable.ensures
+    refuses _ _ _ Output (overflows _ _ _ p.after p.w p.invariant.opened p.invariant.walks (omega arith) _ _ _ (went (goal.at.returns-then-w-usable c).After-step-w (room (goal.at.returns-then-w-usable c).After-after-1)) c.if-w-usable.true)
 
 pub loop-w-smaller : goal.loop-w-smaller
 loop-w-smaller c =
@@ -101,12 +90,12 @@ loop-w-preserved c =
       count = omega (arith, p.invariant.count, d.below, c.bottom-turns.ensures.0);
     }
 
-pub overflow_sub-turns : goal.overflow_sub-turns
-overflow_sub-turns c =
+pub overflow_sub-result : goal.overflow_sub-result
+overflow_sub-result c =
     let p = c.loop-w in
     omega (arith, some_turns _ _ _ p.after p.w p.turns p.invariant (omega arith))
 
 pub returns : goal.returns
 returns c =
     let p = c.loop-w in
-    sizes _ _ _ p.after p.w p.turns _ p.invariant (omega arith) c.done.ensures
+    sizes _ _ _ p.after p.w p.turns p.invariant (omega arith)

@@ -1,6 +1,6 @@
-use Prim.Native.Nat.{ℕ}
-use native.Mathlib.Omega.{arith}
-use Rattle.table.specs.View.{view, IsCell}
+use Rattle.std.specs.Prelude.{ℕ}
+use Rattle.std.proofs.Common.{arith}
+use Rattle.table.specs.View.{IsCell}
 use Rattle.pool.specs.Pool.{InPool}
 use Rattle.levels.specs.Laws.Beside.{beside, Pair, pair, enough, too_few}
 use Rattle.levels.proofs.walk.fits.Goals.{Else-f-eq0}
@@ -8,13 +8,13 @@ use Rattle.levels.proofs.walk.fits.Goals as goal
 
 -- what a turn knows
 both : (c : Else-f-eq0) →
-    Pair (view c.args.s c.args.t.now) c.args.a c.loop-x.x c.loop-x.f
+    Pair c.args.p.now.pool c.args.a c.loop-x.x c.loop-x.f
 both c = pair _ _ _ _ c.loop-x-test.true c.if-f-eq0.false c.loop-x.invariant
 
 cell : (c : Else-f-eq0) (x : ℕ) →
-    InPool (view c.args.s c.args.t.now).cells x
-    → IsCell c.args.s x
-cell c x i = record { low = i.0; high = omega arith }
+    InPool c.args.p.now.pool.cells x
+    → IsCell c.args.p.now.shape x
+cell c x i = record { low = i.0; high = omega (arith, i.1) }
 
 pub loop-x-init : goal.loop-x-init
 loop-x-init c = rw (c.holder_of-x.ensures.0, c.free_head-f.ensures.0) (beside _ _ c.requires.sound)
@@ -23,15 +23,11 @@ pub returns-then-f-eq0 : goal.returns-then-f-eq0
 returns-then-f-eq0 c = too_few _ _ _ _ c.loop-x-test.true c.if-f-eq0.true c.loop-x.invariant
 
 pub next_of-x-requires : goal.next_of-x-requires
-next_of-x-requires c =
-    record { table = c.requires.table; cell = cell c _ (both c).here.inside }
+next_of-x-requires c = cell c _ (both c).here.inside
 
 pub next_of-f-requires : goal.next_of-f-requires
 next_of-f-requires c =
-    record {
-      table = c.requires.table;
-      cell = cell (goal.at.next_of-f-requires c).Else-f-eq0 _ (both (goal.at.next_of-f-requires c).Else-f-eq0).free;
-    }
+    cell (goal.at.next_of-f-requires c).Else-f-eq0 _ (both (goal.at.next_of-f-requires c).Else-f-eq0).free
 
 pub loop-x-smaller : goal.loop-x-smaller
 loop-x-smaller c = rw c.next_of-x.ensures.0 (omega (arith, (both (goal.at.loop-x-smaller c).Else-f-eq0).here.longer))

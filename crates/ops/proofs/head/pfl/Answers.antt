@@ -1,46 +1,18 @@
 -- `ops::head::pfl` meets its contract.
-use mathlib.Core.Path.{◌≡◌, refl, sym, ◌∙◌}
-use mathlib.Core.Bool.{false}
-use Prim.Native.Nat.{ℕ}
-use native.Mathlib.Omega.{arith}
-use lib.Dec.{ltb}
-use borrow.Author.Tests.{ltb-false}
-use Rattle.answers.specs.Answers.{NO_ROOM}
-use Rattle.ops.specs.Replies.{operation}
+use Rattle.std.proofs.Common.{refl, ltb-false}
 use Rattle.ops.specs.Laws.GivesLaws.{refuses, does}
 use Rattle.ops.specs.Laws.TestLaws.{says-full, says-done}
 use Rattle.ops.specs.Laws.WordLaws.{two}
-use Rattle.pool.specs.Pool.{frees}
-use Rattle.pool.specs.Script.{PFL, effect}
-use Rattle.pool.specs.Laws.ScriptLaws.{Opened, some_free}
-use Rattle.table.specs.View.{view}
-use Rattle.ops.proofs.head.pfl.Goals.{Else-is_full, Start}
+use Rattle.pool.specs.Script.{effect}
+use Rattle.pool.specs.Laws.ScriptLaws.{some_free}
 use Rattle.ops.proofs.head.pfl.Goals as goal
 
--- the words are in order
-opened : (start : Start) (v : ℕ) → Opened (view start.args.s start.args.t.now) (operation PFL start.args.a start.args.b v)
-opened start v = two _ refl (start.requires.table, (start.requires.a_bound, start.requires.sound)) refl
-
--- past the test a cell is free
-roomy : (c : Else-is_full) →
-    let a = c.args in
-    ltb (frees (view a.s a.t.now).cells) 1 ≡ false
-roomy c = sym c.is_full.ensures ∙ c.if-is_full.false
-
 pub returns-then-is_full : goal.returns-then-is_full
-returns-then-is_full c v =
-    refuses _ NO_ROOM c.requires.table (says-full _ _ (opened (goal.at.returns-then-is_full c).Start v) refl refl refl (sym c.is_full.ensures ∙ c.if-is_full.true)) (omega arith)
+returns-then-is_full c v = refuses (says-full (two refl c.requires refl) refl refl refl (cc))
 
-pub pfl-requires : goal.pfl-requires
-pfl-requires c =
-    record {
-      table = c.requires.table;
-      a_bound = c.requires.a_bound;
-      sound = c.requires.sound;
-      t_nonzero = some_free _ c.requires.sound (ltb-false _ 1 (roomy (goal.at.pfl-requires c).Else-is_full));
-    }
+pub pfl-requires-clause-free : goal.pfl-requires-clause-free
+pfl-requires-clause-free c = some_free _ c.requires.sound (ltb-false _ 1 (cc))
 
 pub returns : goal.returns
 unfolding effect
-returns c v =
-    does _ _ (says-done _ _ (opened (goal.at.returns c).Start v) refl refl refl (roomy (goal.at.returns c).Else-is_full)) c.pfl.ensures refl
+returns c v = does (says-done (two refl c.requires refl) refl refl refl (cc)) c.pfl.ensures refl

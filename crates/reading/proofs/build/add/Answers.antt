@@ -17,7 +17,7 @@ overflow_cast-lists c =
 
 pub returns-then-q-p : goal.returns-then-q-p
 returns-then-q-p c =
-    list_added c.requires c.if-q-p.true c.begin_list-j.ensures
+    list_added c.requires c.if-q-p.true c.cell.ensures c.begin_list-j.ensures
 
 pub add_atom-j-requires : goal.add_atom-j-requires
 add_atom-j-requires c =

@@ -2,7 +2,7 @@
 use mathlib.Core.Path.{sym, ◌∙◌}
 use native.Mathlib.Omega.{arith}
 use Rattle.scan.specs.Places.{Inside}
-use Rattle.scan.specs.declared.step.Step.TheVariants.{Mark}
+use Rattle.std.specs.Prelude.{Ok}
 use Rattle.scan.proofs.Tokens.{shut_answered, atom-answered, taken_shut, taken-comma, taken-closed}
 use Rattle.reading.proofs.Nexts.{Whole, here, opens, empty, whole}
 use Rattle.reading.proofs.next.next.Goals.{Else-text-at-eq41, Start}
@@ -61,7 +61,7 @@ closed-requires c =
 pub returns-then-text-at-eq41 : goal.returns-then-text-at-eq41
 returns-then-text-at-eq41 c =
     let shut = c.if-text-at-eq41.true in
-    taken_shut (inside (goal.at.returns-then-text-at-eq41 c).Start) (empty c.requires.amid shut) shut (Mark c.closed.result) c.closed.ensures
+    taken_shut (inside (goal.at.returns-then-text-at-eq41 c).Start) (empty c.requires.amid shut) shut (Ok c.closed.result) c.closed.ensures
 
 pub bounds-text-end : goal.bounds-text-end
 bounds-text-end c = (atom (goal.at.bounds-text-end c).Else-text-at-eq41).more
@@ -116,4 +116,4 @@ returns c =
     let h = inside (goal.at.returns c).Start in
     let a = atom (goal.at.returns c).Else-text-at-eq41 in
     let shut = a.ends c.if-text-end-eq44.false in
-    taken-closed h a.atom a.short a.more shut (Mark c.closed-2.result) c.closed-2.ensures
+    taken-closed h a.atom a.short a.more shut (Ok c.closed-2.result) c.closed-2.ensures

@@ -1,9 +1,9 @@
 -- `reading::stored::scan` meets its contract in each form.
-use mathlib.Core.Path.{◌≡◌, sym, ap, ◌∙◌, subst}
+use mathlib.Core.Path.{◌≡◌, sym, subst}
 use Rattle.answers.specs.Answers.{DONE}
 use Rattle.groups.specs.Stored.{size_fault, scanned, list_in}
 use Rattle.lists.specs.Lst.{extent}
-use Rattle.scan.specs.Outcomes.{saying}
+use Rattle.scan.specs.Outcomes.{Says}
 use Rattle.text.specs.Laws.SizeLaws.{its_size}
 use Rattle.reading.proofs.stored.scan.Goals as goal
 
@@ -18,9 +18,9 @@ scan-requires-in-Groups c =
 pub returns-in-Text : goal.returns-in-Text
 returns-in-Text c =
     let s = c.args.bytes.now in
-    c.scan.ensures ∙ sym (ap (λ x. saying (scanned x s) (extent (list_in x s))) c.in-Text.is)
+    subst (λ x. Says (scanned x s) (extent (list_in x s)) c.scan.result) (sym c.in-Text.is) c.scan.ensures
 
 pub returns-in-Groups : goal.returns-in-Groups
 returns-in-Groups c =
     let s = c.args.bytes.now in
-    c.scan-in-Groups.ensures ∙ sym (ap (λ x. saying (scanned x s) (extent (list_in x s))) c.in-Groups.is)
+    subst (λ x. Says (scanned x s) (extent (list_in x s)) c.scan-in-Groups.result) (sym c.in-Groups.is) c.scan-in-Groups.ensures

@@ -1,17 +1,16 @@
-use mathlib.Core.Path.{sym, ◌∙◌}
-use native.Mathlib.Omega.{arith}
-use Rattle.scan.proofs.RunLaws.{run-next, run-stop, run_out}
+-- `run_by_one` ends where the run of digits does, which is at the first byte that is none.
+use Rattle.std.proofs.Common.{arith, rules, tests, ◌+◌, ◌∙◌, ℕ, ap, not, drop, take_all, length-drop}
+use Rattle.std.proofs.lemmas.Iterator.{YieldsList-from_slice}
+use Rattle.std.proofs.lemmas.Iterator.Search.{position_from_yields_List}
+use Rattle.text.specs.ListText.{is_digit_byte}
+use Rattle.scan.specs.Runs.{digit_run}
+use Rattle.scan.proofs.RunLaws.{run_first}
 use Rattle.scan.proofs.octals.run_by_one.Goals as goal
 
-pub returns-then-not-is_octal : goal.returns-then-not-is_octal
-returns-then-not-is_octal c =
-    let off = sym c.is_octal.ensures ∙ c.if-not-is_octal.true in
-    omega (arith, run-stop c.args.text.now c.loop-i.i c.loop-i-test.true off)
-
-pub loop-i-preserved : goal.loop-i-preserved
-loop-i-preserved c =
-    let on = sym c.is_octal.ensures ∙ c.if-not-is_octal.false in
-    (omega arith, omega (arith, run-next c.args.text.now c.loop-i.i c.loop-i-test.true on))
-
 pub returns : goal.returns
-returns c = omega (arith, run_out c.args.text.now c.loop-i.i c.loop-i-test.false)
+returns c =
+    let items = YieldsList-from_slice _ c.iter.ensures.rest in
+    let first = position_from_yields_List (λ b. not (is_digit_byte b)) _ _ _ c.position.ensures.ran items (λ x b q k. search (rules, tests)) in
+    let behind = drop c.args.from c.args.text.now in
+    let all = take_all _ behind (omega (arith, length-drop c.args.from c.args.text.now)) in
+    ap (λ (n : ℕ). c.args.from + n) (c.unwrap_or.ensures ∙ run_first _ _ first ∙ ap digit_run all)

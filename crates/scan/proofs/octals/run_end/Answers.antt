@@ -1,23 +1,17 @@
-use native.Mathlib.Omega.{arith}
-use lib.Count.{trailing_le}
-use Rattle.scan.proofs.Words.{left, eight_more, eight_less}
+use Rattle.std.proofs.Common.{arith}
+use Rattle.scan.proofs.Words.{room, eight_more, eight_less}
 use Rattle.scan.proofs.octals.run_end.Goals as goal
-
-pub overflow_cast-result : goal.overflow_cast-result
-overflow_cast-result c = omega (arith, trailing_le 64 (left c.eight.result))
-
-pub overflow_add-result : goal.overflow_add-result
-overflow_add-result c = omega (arith, trailing_le 64 (left c.eight.result))
 
 pub returns-then-others-ne0 : goal.returns-then-others-ne0
 returns-then-others-ne0 c =
-    let eight = c.eight in
-    let text = c.args.text.now in
-    omega (arith, eight_less text c.loop-i.i c.loop-i-test.true eight.result eight.ensures.value eight.ensures.bytes c.if-others-ne0.true)
+    let word = c.from_le_bytes.ensures in
+    let less = eight_less c.args.text.now c.loop-bytes.i _ c.in-Some.ensures.cases c.type_inv.text (rw (← word) c.if-others-ne0.true) in
+    rw word (omega (arith, less))
 
-pub loop-i-preserved : goal.loop-i-preserved
-loop-i-preserved c =
-    let eight = c.eight in
-    let text = c.args.text.now in
-    let more = eight_more text c.loop-i.i c.loop-i-test.true eight.result eight.ensures.value eight.ensures.bytes c.if-others-ne0.false in
-    (omega arith, omega arith)
+pub loop-bytes-preserved : goal.loop-bytes-preserved
+loop-bytes-preserved c =
+    let s = c.args.text.now in
+    let chunk = c.in-Some.ensures.cases in
+    let word = c.from_le_bytes.ensures in
+    let more = eight_more s c.loop-bytes.i _ chunk c.type_inv.text (rw (← word) c.if-others-ne0.false) in
+    (room s c.loop-bytes.i _ chunk c.type_inv.text, omega (arith, more))

@@ -1,4 +1,5 @@
-use native.Mathlib.Omega.{arith}
+-- `closed`: each answer is the automaton's.
+use Rattle.std.proofs.Common.{arith}
 use Rattle.scan.proofs.Shutting.{shut_once, closed_out, closed-comma, closed-other, closed_again, closed-over}
 use Rattle.scan.proofs.step.closed.Goals as goal
 
@@ -8,17 +9,15 @@ loop-d-init c = shut_once c.requires
 pub returns-then-i-text : goal.returns-then-i-text
 returns-then-i-text c = closed_out c.loop-d.invariant c.loop-d-test.true c.if-i-text.true
 
-pub returns-then-text-i-eq44 : goal.returns-then-text-i-eq44
-returns-then-text-i-eq44 c =
-    closed-comma c.loop-d.invariant c.loop-d-test.true c.if-i-text.false c.requires.some c.if-text-i-eq44.true
+pub returns-in-44 : goal.returns-in-44
+returns-in-44 c = rw c.behind.ensures (closed-comma c.loop-d.invariant c.loop-d-test.true c.if-i-text.false c.requires.some c.in-44.is)
 
-pub returns-then-text-i-ne41 : goal.returns-then-text-i-ne41
-returns-then-text-i-ne41 c =
-    closed-other c.loop-d.invariant c.loop-d-test.true c.if-i-text.false c.if-text-i-eq44.false c.if-text-i-ne41.true
+pub returns-in_default : goal.returns-in_default
+returns-in_default c =
+    closed-other c.loop-d.invariant c.loop-d-test.true c.if-i-text.false (λ e. omega (arith, e)) (λ e. omega (arith, e))
 
 pub loop-d-preserved : goal.loop-d-preserved
-loop-d-preserved c =
-    closed_again c.loop-d.invariant c.loop-d-test.true c.if-i-text.false c.if-text-i-ne41.false
+loop-d-preserved c = closed_again c.loop-d.invariant c.loop-d-test.true c.if-i-text.false c.in-41.is
 
 pub returns : goal.returns
-returns c = closed-over c.loop-d.invariant c.requires.some (omega (arith, c.loop-d-test.false))
+returns c = rw c.behind-2.ensures (closed-over c.loop-d.invariant c.requires.some (omega (arith, c.loop-d-test.false)))

@@ -1,9 +1,6 @@
 -- `digits`: each answer is the automaton's, over the digits and what follows them.
-use Prim.Native.Nat.{◌-◌}
-use mathlib.Core.Path.{◌≡◌, sym, ◌∙◌}
-use mathlib.Core.Bool.{false}
-use native.Mathlib.Omega.{arith}
-use lib.ListN.{get_or}
+use Rattle.std.specs.Prelude.{◌≡◌, false, ◌-◌, get_or}
+use Rattle.std.proofs.Common.{arith, sym, ◌∙◌}
 use Rattle.scan.specs.Places.{too_long_atom}
 use Rattle.scan.proofs.Tokens.{AtomTo, taken_long, taken_out, taken-comma, taken-other, taken-closed}
 use Rattle.scan.proofs.step.digits.Goals.{After-run_end-end, Else-too_long}
@@ -22,16 +19,13 @@ returns-then-too_long c =
 
 pub returns-then-end-text : goal.returns-then-end-text
 returns-then-end-text c =
-    taken_out c.requires.inside (atom (goal.at.returns-then-end-text c).After-run_end-end) (short (goal.at.returns-then-end-text c).Else-too_long) c.if-end-text.true
+    let from = goal.at.returns-then-end-text c in
+    taken_out c.requires.inside (atom from.After-run_end-end) (short from.Else-too_long) c.if-end-text.true
 
-pub returns-then-text-end-eq44 : goal.returns-then-text-end-eq44
-returns-then-text-end-eq44 c =
-    taken-comma c.requires.inside (atom (goal.at.returns-then-text-end-eq44 c).After-run_end-end) (short (goal.at.returns-then-text-end-eq44 c).Else-too_long) c.if-end-text.false c.if-text-end-eq44.true
-
-pub returns-then-text-end-ne41 : goal.returns-then-text-end-ne41
-returns-then-text-end-ne41 c =
-    taken-other c.requires.inside (atom (goal.at.returns-then-text-end-ne41 c).After-run_end-end) (short (goal.at.returns-then-text-end-ne41 c).Else-too_long) c.if-end-text.false c.if-text-end-eq44.false
-    c.if-text-end-ne41.true
+pub returns-in-44 : goal.returns-in-44
+returns-in-44 c =
+    let from = goal.at.returns-in-44 c in
+    rw c.behind.ensures (taken-comma c.requires.inside (atom from.After-run_end-end) (short from.Else-too_long) c.if-end-text.false c.in-44.is)
 
 pub closed-requires : goal.closed-requires
 closed-requires c =
@@ -44,7 +38,12 @@ closed-requires c =
       counted = omega (arith, inside.counted, c.run_end-end.ensures);
     }
 
-pub returns : goal.returns
-returns c =
-    taken-closed c.requires.inside (atom (goal.at.returns c).After-run_end-end) (short (goal.at.returns c).Else-too_long) c.if-end-text.false c.if-text-end-ne41.false c.closed.result
-    c.closed.ensures
+pub returns-in-41 : goal.returns-in-41
+returns-in-41 c =
+    let from = goal.at.returns-in-41 c in
+    taken-closed c.requires.inside (atom from.After-run_end-end) (short from.Else-too_long) c.if-end-text.false c.in-41.is c.closed.result c.closed.ensures
+
+pub returns-in_default : goal.returns-in_default
+returns-in_default c =
+    let from = goal.at.returns-in_default c in
+    taken-other c.requires.inside (atom from.After-run_end-end) (short from.Else-too_long) c.if-end-text.false (λ e. omega (arith, e)) (λ e. omega (arith, e))

@@ -1,39 +1,16 @@
 -- `take`: each answer is the automaton's, by the character at the place.
-use mathlib.Core.Path.{sym, ◌∙◌}
-use native.Mathlib.Omega.{arith}
+use Rattle.std.proofs.Common.{arith, sym, ◌∙◌}
 use Rattle.scan.proofs.Tokens.{taken_open, taken_shut, taken-early, taken_none}
 use Rattle.scan.proofs.step.take.Goals as goal
 
-pub atom-requires : goal.atom-requires
-atom-requires c = record { inside = c.requires; at_value = sym c.is_octal.ensures ∙ c.if-is_octal.true }
+pub returns-in-40 : goal.returns-in-40
+returns-in-40 c = rw c.«open».ensures (taken_open c.requires c.in-40.is)
 
-pub returns-then-is_octal : goal.returns-then-is_octal
-returns-then-is_octal c = c.atom.ensures
+pub returns-in-41 : goal.returns-in-41
+returns-in-41 c = taken_shut c.requires c.if-p.true c.in-41.is c.closed.result c.closed.ensures
 
-pub returns-then-text-at-eq40 : goal.returns-then-text-at-eq40
-returns-then-text-at-eq40 c =
-    rw c.«open».ensures (taken_open c.requires c.if-text-at-eq40.true)
+pub returns-in_default-2 : goal.returns-in_default-2
+returns-in_default-2 c = taken-early c.requires c.if-p.false c.in-41.is
 
-pub returns-then-text-at-ne41 : goal.returns-then-text-at-ne41
-returns-then-text-at-ne41 c =
-    taken_none c.requires (sym c.is_octal.ensures ∙ c.if-is_octal.false) c.if-text-at-eq40.false
-    c.if-text-at-ne41.true
-
-pub closed-requires : goal.closed-requires
-closed-requires c =
-    let inside = c.requires in
-    record {
-      some = omega arith;
-      within = omega (arith, inside.some);
-      small = inside.small;
-      levelled = omega (arith, inside.levelled);
-      counted = omega (arith, inside.counted);
-    }
-
-pub returns-then-p : goal.returns-then-p
-returns-then-p c =
-    taken_shut c.requires c.if-p.true c.if-text-at-ne41.false c.closed.result c.closed.ensures
-
-pub returns : goal.returns
-returns c =
-    taken-early c.requires c.if-p.false c.if-text-at-ne41.false
+pub returns-in_default-2-2 : goal.returns-in_default-2-2
+returns-in_default-2-2 c = taken_none c.requires (sym c.is_octal.ensures ∙ c.if-is_octal.false) (λ e. omega (arith, e)) (λ e. omega (arith, e))

@@ -4,36 +4,21 @@ use mathlib.Core.Path.{◌≡◌, refl, sym, ◌∙◌}
 use native.Mathlib.Omega.{arith}
 use lib.ListN.{get_or}
 use Rattle.text.specs.ListText.{is_digit_byte}
-use Rattle.togroups.specs.Laws.AtomLaws.{digit_low, Grown, gather_on, gather_end}
-use Rattle.togroups.proofs.atoms.further.Goals.{After-digit, In-loop-i}
+use Rattle.togroups.specs.Laws.AtomLaws.{Grown, gather_on, gather_end}
+use Rattle.togroups.proofs.atoms.further.Goals.{After-from, In-loop-i}
 use Rattle.togroups.proofs.atoms.further.Goals as goal
 
 octal : (c : In-loop-i) →
     is_digit_byte (get_or c.args.text.now (c.loop-i.i - 1) 0) ≡ true
 octal c = sym c.is_octal.ensures ∙ c.loop-i-test.true
 
-grown : (c : After-digit) →
-    Grown c.args.text.now c.loop-i.i c.loop-i.v c.loop-i.w c.digit.result
+grown : (c : After-from) →
+    Grown c.args.text.now c.loop-i.i c.loop-i.v c.loop-i.w c.from.result
 grown c =
-    gather_on _ _ _ _ c.loop-i.invariant.0 (octal (goal.at.overflow_mul-v c).In-loop-i) _ c.digit.ensures
+    gather_on _ _ _ _ c.loop-i.invariant.0 (octal (goal.at.overflow_mul-v c).In-loop-i) _ c.from.ensures
 
 pub loop-i-init : goal.loop-i-init
 loop-i-init c = (c.requires, refl)
-
-pub overflow_sub-i : goal.overflow_sub-i
-overflow_sub-i c = omega (arith, c.loop-i.invariant.0.some)
-
-pub bounds-text-i : goal.bounds-text-i
-bounds-text-i c = omega (arith, c.loop-i.invariant.0.some, c.loop-i.invariant.0.within)
-
-pub overflow_sub-i-in-loop-i : goal.overflow_sub-i-in-loop-i
-overflow_sub-i-in-loop-i c = omega (arith, c.loop-i.invariant.0.some)
-
-pub bounds-text-i-in-loop-i : goal.bounds-text-i-in-loop-i
-bounds-text-i-in-loop-i c = omega (arith, c.loop-i.invariant.0.some, c.loop-i.invariant.0.within)
-
-pub digit-requires : goal.digit-requires
-digit-requires c = (digit_low _ (octal (goal.at.digit-requires c).In-loop-i)).0
 
 pub overflow_mul-v : goal.overflow_mul-v
 overflow_mul-v c = omega (arith, (grown c).fits)

@@ -4,7 +4,7 @@ use Rattle.togroups.specs.Passing.{Passing}
 use Rattle.togroups.proofs.pass.pass.Given as goal
 
 abbrev pub invariant-loop-w : goal.invariant-loop-w
-invariant-loop-w l = Passing l.text l.initial.out l.puts l.out l.outer l.w l.size
+invariant-loop-w g l = Passing l.text l.initial.out g.G.Give.puts l.out l.outer l.w l.size
 
 abbrev pub decreases-loop-w : goal.decreases-loop-w
-decreases-loop-w l = l.w.at
+decreases-loop-w g l = l.w.at

@@ -5,15 +5,15 @@ use lib.ListN.{length}
 use Rattle.totext.specs.Checking.{Checking}
 use Rattle.totext.proofs.check.check.Given as goal
 
-abbrev pub invariant-loop-p-2 : goal.invariant-loop-p-2
-invariant-loop-p-2 l =
-    Checking l.groups l.kept l.p × (1 ≤ l.p.depth) × (2 * l.initial.p.at + l.p.depth ≤ 2 * l.p.at + l.initial.p.depth)
+abbrev pub invariant-loop-w-2 : goal.invariant-loop-w-2
+invariant-loop-w-2 l =
+    Checking l.groups l.kept l.w × (1 ≤ l.w.depth) × (2 * l.initial.w.from + l.w.depth ≤ 2 * l.w.from + l.initial.w.depth)
 
-abbrev pub decreases-loop-p-2 : goal.decreases-loop-p-2
-decreases-loop-p-2 l = 2 * length l.groups + l.p.depth - 2 * l.p.at
+abbrev pub decreases-loop-w-2 : goal.decreases-loop-w-2
+decreases-loop-w-2 l = 2 * length l.groups + l.w.depth - 2 * l.w.from
 
-abbrev pub invariant-loop-p : goal.invariant-loop-p
-invariant-loop-p l = Checking l.groups l.kept l.p
+abbrev pub invariant-loop-w : goal.invariant-loop-w
+invariant-loop-w l = Checking l.groups l.kept l.w
 
-abbrev pub decreases-loop-p : goal.decreases-loop-p
-decreases-loop-p l = 2 * length l.groups + l.p.depth - 2 * l.p.at
+abbrev pub decreases-loop-w : goal.decreases-loop-w
+decreases-loop-w l = 2 * length l.groups + l.w.depth - 2 * l.w.from

@@ -1,20 +1,23 @@
-use mathlib.Core.Path.{◌∙◌}
+use Rattle.std.proofs.Common.{◌∙◌}
 use native.Mathlib.Omega.{arith}
 use lib.ListN.{length-set}
 use Rattle.groups.specs.Reading.{list_in}
-use Rattle.totext.specs.Laws.PuttingLaws.{some_text, first_below, put-begins, put_on, put-from, put-after, put_shut, put_ends}
+use Rattle.totext.specs.Laws.PuttingLaws.{some_text, first_some, first_below, put-begins, put_on, put-from, put-after, put_shut, put_ends}
 use Rattle.totext.specs.Laws.TurnLaws.{shut_turned, shallow}
 use Rattle.totext.proofs.put.put.Goals as goal
 
 pub bounds-out-0 : goal.bounds-out-0
 bounds-out-0 c = omega (arith, some_text (list_in c.args.groups.now))
 
+pub number_there-n-requires : goal.number_there-n-requires
+number_there-n-requires c = first_some c.requires.held
+
 pub overflow_cast-w : goal.overflow_cast-w
-overflow_cast-w c = omega (arith, first_below c.requires.held c.number_at-n.ensures)
+overflow_cast-w c = omega (arith, first_below c.requires.held c.number_there-n.ensures)
 
 pub loop-w-init : goal.loop-w-init
 loop-w-init c =
-    put-begins c.requires.held c.number_at-n.ensures _ c.args.out.now c.requires.end_value.0 c.requires.end_value.1
+    put-begins c.requires.held c.number_there-n.ensures _ c.args.out.now c.requires.end_value.0 c.requires.end_value.1
 
 pub loop-w-2-init : goal.loop-w-2-init
 loop-w-2-init c = (put-from c.loop-w.invariant, omega arith, omega arith)

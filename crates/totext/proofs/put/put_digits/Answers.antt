@@ -19,18 +19,6 @@ bounds-groups-from c =
     let n = c.loop-r.invariant in
     byte_there n.stands (omega (arith, n.level, c.requires.le_depth)) c.loop-r-test.true
 
-pub shape_of-out-then-b-ge16 : goal.shape_of-out-then-b-ge16
-shape_of-out-then-b-ge16 c = c.loop-r.invariant.room
-
-pub returns-then-b-ge16 : goal.returns-then-b-ge16
-returns-then-b-ge16 c = c.loop-r.invariant
-
-pub shape_of-out-then-b-ne0 : goal.shape_of-out-then-b-ne0
-shape_of-out-then-b-ne0 c = c.loop-r.invariant.room
-
-pub returns-then-b-ne0 : goal.returns-then-b-ne0
-returns-then-b-ne0 c = c.loop-r.invariant
-
 -- an atom that is put
 turns : (c : Else-b-ne0) →
     let a = c.args in

@@ -1,18 +1,18 @@
 -- `totext::put::put_element` meets its contract.
 use native.Mathlib.Omega.{arith}
 use Prim.Native.Nat.{ℕ, ◌+◌, ◌-◌, ◌/◌, ◌<◌}
-use mathlib.Core.Path.{refl, ap}
+use Rattle.std.proofs.Common.{refl, ap}
 use mathlib.Core.List.{[], ◌∷◌, ◌++◌}
 use Rattle.groups.specs.Reading.{list_in}
 use Rattle.text.specs.Limits.{levels}
 use Rattle.text.specs.ListText.{text_of}
-use Rattle.writing.specs.Numeral.{numeral}
+use Rattle.octal.specs.Numeral.{numeral}
 use Rattle.writing.specs.Steps.{comma}
 use Rattle.writing.specs.Laws.PutLaws.{put_one}
 use Rattle.totext.specs.declared.put.Walk.{Walk}
 use Rattle.totext.specs.Turns.{walk, parted, behind_atom, behind_open, kept_at, Turned}
 use Rattle.totext.specs.Laws.PartLaws.{put-parted}
-use Rattle.totext.specs.Laws.TurnLaws.{below, atom-turned, open_turned}
+use Rattle.totext.specs.Laws.TurnLaws.{some_number, below, atom-turned, open_turned}
 use Rattle.totext.proofs.put.put_element.Goals.{Else-n-eq0, Then-n-eq0}
 use Rattle.totext.proofs.put.put_element.Goals as goal
 
@@ -20,21 +20,24 @@ use Rattle.totext.proofs.put.put_element.Goals as goal
 passes : (c : Then-n-eq0) →
     let a = c.args in
     let s = a.groups.now in
-    let n = c.number_at-n.result in
+    let n = c.number_there-n.result in
     Turned s (text_of (list_in s)) a.kept.now a.w (parted (behind_atom n a.w)) (numeral (n.value / 2) ++ comma (a.w.left - 1))
 passes c =
-    atom-turned c.requires.standing c.requires.le_depth.0 c.requires.le_depth.1 c.number_at-n.ensures c.if-n-eq0.true
+    atom-turned c.requires.standing c.requires.le_depth.0 c.requires.le_depth.1 c.number_there-n.ensures c.if-n-eq0.true
 
 opens : (c : Else-n-eq0) →
     let a = c.args in
     let s = a.groups.now in
-    Turned s (text_of (list_in s)) (kept_at a.kept.now a.w) a.w (behind_open c.number_at-n.result a.w) (40 ∷ []) × (a.w.depth < levels)
+    Turned s (text_of (list_in s)) (kept_at a.kept.now a.w) a.w (behind_open c.number_there-n.result a.w) (40 ∷ []) × (a.w.depth < levels)
 opens c =
-    open_turned c.requires.standing c.requires.le_depth.0 c.requires.le_depth.1 c.number_at-n.ensures c.if-n-eq0.false
+    open_turned c.requires.standing c.requires.le_depth.0 c.requires.le_depth.1 c.number_there-n.ensures c.if-n-eq0.false
+
+pub number_there-n-requires : goal.number_there-n-requires
+number_there-n-requires c = some_number c.requires.standing c.requires.le_depth.0 c.requires.le_depth.1
 
 pub overflow_cast-half : goal.overflow_cast-half
 overflow_cast-half c =
-    omega (arith, below c.requires.standing c.requires.le_depth.0 c.requires.le_depth.1 c.number_at-n.ensures)
+    omega (arith, below c.requires.standing c.requires.le_depth.0 c.requires.le_depth.1 c.number_there-n.ensures)
 
 pub put_atom-requires : goal.put_atom-requires
 put_atom-requires c = let d = passes (goal.at.put_atom-requires c).Then-n-eq0 in (omega (arith, d.stands.within), omega arith)
@@ -49,7 +52,7 @@ part-requires c =
 pub returns-then-n-eq0 : goal.returns-then-n-eq0
 returns-then-n-eq0 c =
     let a = c.args in
-    let n = c.number_at-n.result in
+    let n = c.number_there-n.result in
     let e = ap (λ (k : ℕ). walk n.end (a.w.to + k) a.w.depth (a.w.left - 1)) c.count.ensures.0 in record {
       put_turn = put-parted {bs = numeral (n.value / 2)} (passes (goal.at.returns-then-n-eq0 c).Then-n-eq0) e refl c.put_atom.ensures c.part.ensures;
       le_depth_2 = omega (arith, ap (λ (v : Walk). v.depth) c.part.ensures.is, c.requires.le_depth.0);

@@ -15,4 +15,6 @@ pub returns : goal.returns
 returns c =
     let a = c.args in
     let one = put_one a.out.now a.w.to a.end 41 (omega (arith, c.requires.w_bound.0)) c.requires.w_bound.1 in
-    (c.part.ensures.is, put_then a.out.now _ _ (41 ∷ []) _ a.w.to _ a.end one refl c.part.ensures.put)
+    let put = rw c.shut.ensures at c.part.ensures.put in
+    let is = rw c.shut.ensures at c.part.ensures.is in
+    (is, put_then a.out.now _ _ (41 ∷ []) _ a.w.to _ a.end one refl put)

@@ -1,28 +1,19 @@
-use native.Mathlib.Omega.{arith}
+use Rattle.std.proofs.Common.{rules, subst, ◌≡◌, ◌+◌, ◌≤◌, length, arith}
+use Rattle.ungrouping.specs.Places.{Atoms}
 use Rattle.ungrouping.specs.Laws.PlaceLaws.{atoms-none, atoms-on}
 use Rattle.ungrouping.proofs.atoms.past.Goals as goal
 
-pub loop-i-init : goal.loop-i-init
-loop-i-init c = atoms-none c.requires
+pub loop-at-init : goal.loop-at-init
+loop-at-init c = atoms-none c.requires
 
-pub bounds-bytes-i : goal.bounds-bytes-i
-bounds-bytes-i c = omega (arith, c.reach-stop.ensures.within)
-
-pub returns-then-bytes-i-ge128 : goal.returns-then-bytes-i-ge128
-returns-then-bytes-i-ge128 c = c.loop-i.invariant
-
-pub bounds-bytes-i-in-loop-i : goal.bounds-bytes-i-in-loop-i
-bounds-bytes-i-in-loop-i c = omega (arith, c.reach-stop.ensures.within)
-
-pub returns-then-bytes-i-ne0 : goal.returns-then-bytes-i-ne0
-returns-then-bytes-i-ne0 c = c.loop-i.invariant
-
-pub loop-i-preserved : goal.loop-i-preserved
-loop-i-preserved c =
-    let stop = c.reach-stop.ensures in
-    let inside = c.loop-i-test.true in
-    let a = c.loop-i.invariant in
-    atoms-on a (omega (arith, a.on, stop.few)) (omega (arith, stop.within)) c.if-bytes-i-ge128.false (omega (arith, c.if-bytes-i-ne0.false))
+pub loop-at-preserved : goal.loop-at-preserved
+loop-at-preserved c =
+    let most : c.min.result ≤ c.args.most = search (rules, c.min.ensures) in
+    let inside : c.args.from + c.min.result ≤ length c.args.bytes.now = search (rules, c.min.ensures) in
+    let a = c.loop-at.invariant in
+    atoms-on a (omega (arith, a.on)) (omega arith) c.if-bytes-at-ge128.false (omega arith)
 
 pub returns : goal.returns
-returns c = c.loop-i.invariant
+returns c =
+    let end : c.loop-at.at ≡ c.args.from + c.min.result = omega arith in
+    subst (Atoms c.args.bytes.now c.args.from c.args.most) end c.loop-at.invariant

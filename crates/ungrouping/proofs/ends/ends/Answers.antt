@@ -1,20 +1,23 @@
-use Prim.Native.Nat.{ℕ}
-use mathlib.Core.Path.{subst}
-use native.Mathlib.Omega.{arith}
-use Rattle.ungrouping.specs.Ends.{Ends}
-use Rattle.ungrouping.specs.Laws.EndLaws.{ends_none, ends_on}
+use Rattle.std.proofs.Common.{refl, ◌≤◌, length, take, arith}
+use Rattle.std.proofs.lemmas.Grind.{common_steps}
+use Rattle.groups.specs.LastGroups.{last_groups}
+use Rattle.ungrouping.specs.Laws.EndLaws.{few_last, last_next}
 use Rattle.ungrouping.proofs.ends.ends.Goals as goal
 
-pub loop-i-init : goal.loop-i-init
-loop-i-init c = let a = c.args in (omega arith, omega arith, ends_none a.bytes.now a.from)
+pub loop-b-init : goal.loop-b-init
+unfolding last_groups
+loop-b-init c = refl
 
 pub overflow_add-count : goal.overflow_add-count
-overflow_add-count c = omega (arith, c.loop-i.invariant.2.few, c.last-count.ensures.1)
+overflow_add-count c =
+    let next = last_next c.args.block.now c.loop-b.b-index c.loop-b-test.true in
+    let few = few_last (take c.loop-b.b-index c.args.block.now) in
+    let one : c.from-count.result ≤ 1 = grind (arith, common_steps) in
+    let short : length (take c.loop-b.b-index c.args.block.now) ≤ c.loop-b.b-index = grind (arith, common_steps) in
+    omega (arith, c.requires)
 
-pub loop-i-preserved : goal.loop-i-preserved
-loop-i-preserved c =
-    (omega arith, omega arith, ends_on c.loop-i.invariant.2 c.loop-i.invariant.0 (omega arith) c.last-count.ensures.0 c.last-count.ensures.1)
-
-pub returns : goal.returns
-returns c =
-    subst (λ (i : ℕ). Ends c.args.bytes.now c.args.from i c.loop-i.count) (omega arith) c.loop-i.invariant.2
+pub loop-b-preserved : goal.loop-b-preserved
+loop-b-preserved c =
+    let next = last_next c.args.block.now c.loop-b.b-index c.loop-b-test.true in
+    let same = c.from-count.ensures in
+    grind (arith, common_steps, next, same)

@@ -1,10 +1,7 @@
 -- `ungrouping::ends::ends` meets its contract.
-use Prim.Native.Nat.{◌-◌, ◌≤◌}
-use Rattle.ungrouping.specs.Ends.{Ends}
+use Rattle.std.specs.Prelude.{◌≡◌, take}
+use Rattle.groups.specs.LastGroups.{last_groups}
 use Rattle.ungrouping.proofs.ends.ends.Given as goal
 
-abbrev pub invariant-loop-i : goal.invariant-loop-i
-invariant-loop-i l = (l.from ≤ l.i) × (l.i ≤ l.to) × Ends l.bytes l.from l.i l.count
-
-abbrev pub decreases-loop-i : goal.decreases-loop-i
-decreases-loop-i l = l.to - l.i
+abbrev pub invariant-loop-b : goal.invariant-loop-b
+invariant-loop-b l = l.count ≡ last_groups (take l.b-index l.block)

@@ -1,27 +1,22 @@
-use Prim.Native.Nat.{ℕ}
-use mathlib.Core.Path.{◌≡◌, ap, ◌∙◌}
-use native.Mathlib.Omega.{arith}
-use lib.ListN.{take}
+use Rattle.std.proofs.Common.{rules, ap, ◌∙◌, arith}
+use Rattle.std.specs.Slice.Iter.{chunks_rest}
 use Rattle.groups.specs.LastGroups.{last_groups}
-use Rattle.ungrouping.specs.Laws.EndLaws.{ends_none, ends_then, ends_all}
+use Rattle.groups.specs.Laws.Sizes.{last-append}
+use Rattle.ungrouping.specs.Laws.EndLaws.{few_last}
 use Rattle.ungrouping.proofs.ends.numbers_in.Goals as goal
 
-pub loop-i-init : goal.loop-i-init
-loop-i-init c = (omega arith, ends_none c.args.bytes.now 0)
+pub overflow_add-count : goal.overflow_add-count
+overflow_add-count c =
+    let step = ap last_groups c.in-Some.ensures.steps.1.0 ∙ last-append c.in-Some.block.now (chunks_rest c.next.new.self) in
+    let few = few_last c.args.bytes.now in
+    omega (arith, step, c.ends.ensures, c.from-count.ensures, c.requires)
 
-pub loop-i-smaller : goal.loop-i-smaller
-loop-i-smaller c =
-    let r = c.reach-to.ensures in
-    let on = r.moves c.loop-i-test.true (omega arith) in
-    omega arith
-
-pub loop-i-preserved : goal.loop-i-preserved
-loop-i-preserved c =
-    let r = c.reach-to.ensures in
-    (r.within, ends_then c.loop-i.invariant.1 c.ends.ensures (omega arith) r.on)
+pub loop-block-preserved : goal.loop-block-preserved
+loop-block-preserved c =
+    let step = ap last_groups c.in-Some.ensures.steps.1.0 ∙ last-append c.in-Some.block.now (chunks_rest c.next.new.self) in
+    (search rules, omega (arith, step, c.ends.ensures, c.from-count.ensures))
 
 pub returns : goal.returns
 returns c =
-    let a = c.args in
-    let all : c.loop-i.i ≡ a.end = omega arith in
-    ends_all c.loop-i.invariant.1 ∙ ap (λ (i : ℕ). last_groups (take i a.bytes.now)) all
+    let few = few_last (chunks_rest c.loop-block.block-iterator) in
+    omega (arith, c.in-None.ensures.steps.1.0)

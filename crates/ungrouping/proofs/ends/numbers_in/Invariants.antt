@@ -1,10 +1,9 @@
 -- `ungrouping::ends::numbers_in` meets its contract.
-use Prim.Native.Nat.{◌-◌, ◌≤◌}
-use Rattle.ungrouping.specs.Ends.{Ends}
+use Rattle.std.specs.Prelude.{◌≡◌, ◌+◌}
+use Rattle.std.specs.Slice.Iter.{chunks_rest, chunks_size}
+use Rattle.groups.specs.LastGroups.{last_groups}
 use Rattle.ungrouping.proofs.ends.numbers_in.Given as goal
 
-abbrev pub invariant-loop-i : goal.invariant-loop-i
-invariant-loop-i l = (l.i ≤ l.end) × Ends l.bytes 0 l.i l.count
-
-abbrev pub decreases-loop-i : goal.decreases-loop-i
-decreases-loop-i l = l.end - l.i
+abbrev pub invariant-loop-block : goal.invariant-loop-block
+invariant-loop-block l =
+    (chunks_size l.block-iterator ≡ 192) × (l.count + last_groups (chunks_rest l.block-iterator) ≡ last_groups l.bytes)

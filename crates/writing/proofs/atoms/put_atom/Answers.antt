@@ -1,11 +1,9 @@
 -- `writing::atoms::put_atom` meets its contract.
-use Prim.Native.Nat.{◌+◌}
-use mathlib.Core.Path.{ap}
-use lib.ListN.{length}
-use native.Mathlib.Omega.{arith}
+use Rattle.std.proofs.Common.{◌+◌, ◌∙◌, ap, arith, length, length-take-le, take-take}
+use Rattle.std.proofs.lemmas.Slice.{put_mid-paste}
 use Rattle.text.specs.Limits.{digits_most}
-use Rattle.writing.specs.Numeral.{numeral}
-use Rattle.writing.specs.Laws.NumeralLaws.{one-digit}
+use Rattle.octal.specs.Numeral.{numeral}
+use Rattle.octal.specs.Laws.NumeralLaws.{one-digit}
 use Rattle.writing.specs.Laws.PutLaws.{put_one, put_store}
 use Rattle.writing.proofs.atoms.put_atom.Goals as goal
 
@@ -18,15 +16,16 @@ returns-then-v-lt8 c =
 
 pub returns-then-end-at-lt-MOST : goal.returns-then-end-at-lt-MOST
 returns-then-end-at-lt-MOST c =
-    let a = c.args in
     let w = c.work_out-store in
     let k = c.count-n in
-    put_store _ _ _ (numeral _) a.at a.end k.result k.result c.copy.ensures (omega arith) (omega arith) (omega arith)
-    k.ensures.0 w.ensures.1 (omega arith)
+    let few = length-take-le k.result w.result (omega arith) in
+    put_store _ _ _ (numeral _) _ c.args.end k.result _ (put_mid-paste _ _ _ _ _ k.result c.copy_from_slice.ensures.after (omega arith) (omega (arith, few)))
+    (omega arith) (omega arith) (omega (arith, few)) k.ensures.0 (take-take k.result k.result w.result (omega arith) ∙ w.ensures.1) (omega arith)
 
 pub returns-else-end-at-lt-MOST : goal.returns-else-end-at-lt-MOST
 returns-else-end-at-lt-MOST c =
     let w = c.work_out-store in
     let k = c.count-n in
-    put_store _ _ _ (numeral _) _ _ _ digits_most c.copy-else-end-at-lt-MOST.ensures (omega arith) (omega arith) (omega arith) k.ensures.0 w.ensures.1
-    (omega arith)
+    let copied = c.copy_from_slice-else-end-at-lt-MOST.ensures.after in
+    put_store _ _ w.result (numeral _) _ _ _ digits_most (put_mid-paste _ _ _ _ _ digits_most copied (omega arith) (omega arith))
+    (omega arith) (omega arith) (omega arith) k.ensures.0 w.ensures.1 (omega arith)

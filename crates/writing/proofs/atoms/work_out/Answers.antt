@@ -1,13 +1,6 @@
-use mathlib.Core.List.{append-nil}
-use mathlib.Core.Path.{◌≡◌, refl, sym, ◌∙◌}
-use lib.ListN.{length-set}
-use Prim.Native.Nat.{◌+◌, ◌%◌, ◌-◌}
-use native.Mathlib.Omega.{arith}
-use Rattle.writing.specs.Laws.NumeralLaws.{last_step, none_left, worked_out}
+use Rattle.std.proofs.Common.{◌≡◌, refl, ◌∙◌, ◌+◌, ◌%◌, ◌-◌, length-set, arith}
+use Rattle.octal.specs.Laws.WorkedOutLaws.{last_step, none_left, worked_out}
 use Rattle.writing.proofs.atoms.work_out.Goals as goal
-
-pub loop-i-init : goal.loop-i-init
-loop-i-init c = (omega arith, refl, sym (append-nil _))
 
 pub loop-i-preserved : goal.loop-i-preserved
 loop-i-preserved c = (
@@ -20,5 +13,5 @@ pub returns : goal.returns
 returns c =
     let z : c.loop-i.i ≡ 0 = omega arith in (
       c.loop-i.invariant.1,
-      worked_out _ _ _ _ (omega arith) c.requires.0 (omega arith) (omega arith) refl (c.loop-i.invariant.2 ∙ none_left _ c.loop-i.left _ z),
+      worked_out _ _ _ _ (omega arith) c.requires.0 (omega arith) (omega arith) (rw c.from.ensures refl) (c.loop-i.invariant.2 ∙ none_left _ c.loop-i.left _ z),
     )

@@ -1,10 +1,8 @@
-use Prim.Native.Nat.{◌<◌}
-use mathlib.Core.Path.{sym, ◌∙◌}
-use mathlib.Core.Logic.{◌≢◌}
-use native.Mathlib.Omega.{arith}
-use Rattle.answers.specs.Answers.{DEEP, OUTPUT}
+use Rattle.std.specs.Prelude.{◌<◌, ◌≢◌}
+use Rattle.std.proofs.Common.{sym, ◌∙◌, arith}
+use Rattle.answers.specs.declared.refusal.Refusal.TheVariants.{Deep, Output}
 use Rattle.pool.specs.Pool.{kind_of}
-use Rattle.table.specs.View.{view}
+use Rattle.cells.specs.Views.{pool_of}
 use Rattle.text.specs.Limits.{levels}
 use Rattle.writing.specs.Measures.{text_at}
 use Rattle.writing.specs.Walking.{Turned}
@@ -18,15 +16,15 @@ use Rattle.writing.proofs.walk.measure.Goals as goal
 room : (c : After-after-1) →
     let a = c.args in
     let w = c.loop-w.w in
-    let cs = (view a.s a.t.now).cells in
+    let cs = (pool_of a.t).cells in
     w.at ≢ 0 → kind_of cs w.at ≢ 0 → w.depth < levels
 room c = roomy _ _ _ (sym c.too_deep.ensures ∙ c.if-too_deep.false)
 
 went : (c : After-step-w) →
     let a = c.args in
     let w = c.loop-w.w in
-    (w.at ≢ 0 → kind_of (view a.s a.t.now).cells w.at ≢ 0 → w.depth < levels) →
-    let cs = (view a.s a.t.now).cells in
+    (w.at ≢ 0 → kind_of (pool_of a.t).cells w.at ≢ 0 → w.depth < levels) →
+    let cs = (pool_of a.t).cells in
     Turned cs (text_at cs a.x) c.step-w.new.after c.loop-w.w c.step-w.result c.step-w.ensures.0
 went c r =
     let p = c.loop-w in
@@ -35,37 +33,32 @@ went c r =
 pub returns-then-usable-eq0 : goal.returns-then-usable-eq0
 returns-then-usable-eq0 c =
     let a = c.args in
-    let cs = (view a.s a.t.now).cells in
-    refuses cs a.x a.usable OUTPUT _ (no_room cs a.x a.usable c.if-usable-eq0.true) (λ q. omega arith) c.refused.ensures
+    let cs = (pool_of a.t).cells in
+    refuses cs a.x a.usable Output (no_room cs a.x a.usable c.if-usable-eq0.true)
 
 pub loop-w-init : goal.loop-w-init
 loop-w-init c = begins _ _ _ _ c.requires.stands (omega arith) c.started-w.ensures
 
 pub too_deep-requires : goal.too_deep-requires
 too_deep-requires c =
-    let table = c.requires.table in
     let p = c.loop-w in
-    record { table = table; cell = at-cell _ _ _ p.after p.w p.invariant (omega arith) _ table.measured }
+    at-cell _ _ _ p.after p.w p.invariant (omega arith) _ c.args.t.table.measured
 
 pub returns-then-too_deep : goal.returns-then-too_deep
 returns-then-too_deep c =
     let p = c.loop-w in
     let q = full _ _ _ (sym c.too_deep.ensures ∙ c.if-too_deep.true) in
-    refuses _ _ _ DEEP _ (too_deep_lem _ _ _ p.after p.w p.invariant (omega arith) q.1 q.2 q.0) (λ z. omega arith) c.refused-then-too_deep.ensures
+    refuses _ _ _ Deep (too_deep_lem _ _ _ p.after p.w p.invariant (omega arith) q.1 q.2 q.0)
 
 pub step-w-requires : goal.step-w-requires
 step-w-requires c =
     let p = c.loop-w in
-    record {
-      table = c.requires.table;
-      may_turn = may_turn _ _ _ p.after p.w p.invariant (omega arith) _ c.requires.table.measured c.requires.usable_le_text_most (room c);
-    }
+    may_turn _ _ _ p.after p.w p.invariant (omega arith) _ c.args.t.table.measured c.requires.usable_le_text_most (room c)
 
 pub returns-then-w-usable : goal.returns-then-w-usable
 returns-then-w-usable c =
     let p = c.loop-w in
-    refuses _ _ _ OUTPUT _ (overflows _ _ _ p.after p.w p.invariant (omega arith) _ _ _ (went (goal.at.returns-then-w-usable c).After-step-w (room (goal.at.returns-then-w-usable c).After-after-1)) c.if-w-usable.true) (λ q. omega arith)
-    c.refused-then-w-usable.ensures
+    refuses _ _ _ Output (overflows _ _ _ p.after p.w p.invariant (omega arith) _ _ _ (went (goal.at.returns-then-w-usable c).After-step-w (room (goal.at.returns-then-w-usable c).After-after-1)) c.if-w-usable.true)
 
 pub loop-w-smaller : goal.loop-w-smaller
 loop-w-smaller c = let q = went (goal.at.loop-w-smaller c).After-step-w (room (goal.at.loop-w-smaller c).After-after-1) in omega (arith, q.size, q.more)
@@ -78,4 +71,4 @@ loop-w-preserved c =
 pub returns : goal.returns
 returns c =
     let p = c.loop-w in
-    sizes _ _ _ p.after p.w _ p.invariant (omega arith) c.done.ensures
+    sizes _ _ _ p.after p.w p.invariant (omega arith)
