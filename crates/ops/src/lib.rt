@@ -48,7 +48,8 @@ fn early(n: usize, code: u32, a: u32, b: u32) -> Result<Code, Refusal>
     Ok(named)
 }
 
-// The operation that the code names, its words in order.
+// The operation that the code names, its words in order. A match and no table of functions: the operations take different
+// words.
 fn dispatch(p: &mut Pool, code: Code, a: usize, b: usize, v: u32) -> Result<Told, Refusal>
     requires sized { Sized p.old }
     requires sound { Sound p.old.pool }

@@ -24,7 +24,7 @@ fn moved(groups: &[u8], out: &mut [u8]) -> Result<Passed, Refusal>
     if c.size > writing::usable(out.len()) {
         return Err(Refusal::Output);
     }
-    put::put(groups, out, c.size);
+    put::put(groups, &mut out[..c.size]);
     let end = writing::record_end(c.size);
     writing::fill(out, c.size, end);
     let written = end as u32;

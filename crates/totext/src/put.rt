@@ -1,7 +1,6 @@
 // The text of a list that is held in groups, each character in its place. The elements still to come are counted: in
 // hand for the innermost list, kept for the lists around it.
 ghost use Rattle.std.specs.Prelude.{◌≡◌, ◌≢◌, ◌+◌, ◌≤◌, length};
-ghost use Rattle.calls.specs.Entry.{over};
 ghost use Rattle.groups.specs.Reading.{list_in};
 ghost use Rattle.text.specs.Limits.{levels};
 ghost use Rattle.text.specs.ListText.{text_of};
@@ -42,9 +41,9 @@ impl Walk {
 }
 
 // "," before a further element.
-fn part(out: &mut [u8], end: usize, w: Walk) -> Walk
-    requires { (w.to + length (comma w.left) ≤ end) × (end ≤ length out.old) }
-    ensures { Parts w result out.old out.new end }
+fn part(out: &mut [u8], w: Walk) -> Walk
+    requires { w.to + length (comma w.left) ≤ length out.old }
+    ensures { Parts w result out.old out.new (length out.old) }
 {
     if w.left == 0 {
         return w;
@@ -55,10 +54,10 @@ fn part(out: &mut [u8], end: usize, w: Walk) -> Walk
 }
 
 // ")"
-fn put_shut(kept: &Kept, out: &mut [u8], end: usize, w: Walk) -> Walk
+fn put_shut(kept: &Kept, out: &mut [u8], w: Walk) -> Walk
     requires le_depth { (1 ≤ w.depth) × (w.depth ≤ levels) }
-    requires w_bound { ((parted (behind_shut kept.now w)).to ≤ end) × (end ≤ length out.old) }
-    ensures { PutShut kept.now w result out.old out.new end }
+    requires w_bound { (parted (behind_shut kept.now w)).to ≤ length out.old }
+    ensures { PutShut kept.now w result out.old out.new (length out.old) }
 {
     let to = w.to;
     out[to] = b')';
@@ -66,16 +65,16 @@ fn put_shut(kept: &Kept, out: &mut [u8], end: usize, w: Walk) -> Walk
         to: to + 1,
         ..w.shut(kept)
     };
-    part(out, end, shut)
+    part(out, shut)
 }
 
 // An atom, or "(" of a list.
-fn put_element(groups: &[u8], kept: &mut Kept, out: &mut [u8], end: usize, w: Walk) -> Walk
+fn put_element(groups: &[u8], kept: &mut Kept, out: &mut [u8], w: Walk) -> Walk
     requires standing { Standing groups.now (text_of (list_in groups.now)) kept.old w }
     requires le_depth { (1 ≤ w.depth) × (w.left ≢ 0) }
-    requires end_value { (end ≡ length (text_of (list_in groups.now))) × (end ≤ length out.old) }
+    requires out_len { length out.old ≡ length (text_of (list_in groups.now)) }
     ensures put_turn { PutTurn groups.now (text_of (list_in groups.now)) kept.new w result
-        out.old out.new end }
+        out.old out.new (length out.old) }
     ensures le_depth_2 { 1 ≤ result.depth }
 {
     let to = w.to;
@@ -85,11 +84,10 @@ fn put_element(groups: &[u8], kept: &mut Kept, out: &mut [u8], end: usize, w: Wa
     let from = n.end;
     let half = (n.value / 2) as u32;
     if n.value % 2 == 0 {
-        atoms::put_atom(out, to, end, half);
+        atoms::put_atom(out, to, half);
         let to = to + octal::count(half);
         return part(
             out,
-            end,
             Walk {
                 from,
                 to,
@@ -112,11 +110,11 @@ fn put_element(groups: &[u8], kept: &mut Kept, out: &mut [u8], end: usize, w: Wa
 
 // Atoms of one digit, up to the last element, each with the "," behind it. Most elements are such, and a loop of their
 // own puts them quickest. No `for`: bytes, characters and elements go on together, and the loop ends where it must.
-fn put_digits(groups: &[u8], kept: &Kept, out: &mut [u8], end: usize, w: Walk) -> Walk
+fn put_digits(groups: &[u8], kept: &Kept, out: &mut [u8], w: Walk) -> Walk
     requires standing { Standing groups.now (text_of (list_in groups.now)) kept.now w }
     requires le_depth { 1 ≤ w.depth }
-    requires end_value { (end ≡ length (text_of (list_in groups.now))) × (end ≤ length out.old) }
-    ensures { Ran groups.now (text_of (list_in groups.now)) end kept.now
+    requires out_len { length out.old ≡ length (text_of (list_in groups.now)) }
+    ensures { Ran groups.now (text_of (list_in groups.now)) (length out.old) kept.now
         out.old out.new w result }
 {
     let mut r = w;
@@ -136,11 +134,11 @@ fn put_digits(groups: &[u8], kept: &Kept, out: &mut [u8], end: usize, w: Walk) -
     r
 }
 
-// The text, which ends at `end`.
-pub fn put(groups: &[u8], out: &mut [u8], end: usize)
+// The text, which fills `out`.
+pub fn put(groups: &[u8], out: &mut [u8])
     requires held { Held groups.now (list_in groups.now) }
-    requires end_value { (end ≡ length (text_of (list_in groups.now))) × (end ≤ length out.old) }
-    ensures { out.new ≡ over (text_of (list_in groups.now)) out.old }
+    requires out_len { length out.old ≡ length (text_of (list_in groups.now)) }
+    ensures { out.new ≡ text_of (list_in groups.now) }
 {
     out[0] = b'(';
     let n = numbers::number_there(groups, 0);
@@ -153,9 +151,9 @@ pub fn put(groups: &[u8], out: &mut [u8], end: usize)
     };
     while w.depth > 0 {
         while w.left > 0 {
-            let ran = put_digits(groups, &kept, out, end, w);
-            w = put_element(groups, &mut kept, out, end, ran);
+            let ran = put_digits(groups, &kept, out, w);
+            w = put_element(groups, &mut kept, out, ran);
         }
-        w = put_shut(&kept, out, end, w);
+        w = put_shut(&kept, out, w);
     }
 }

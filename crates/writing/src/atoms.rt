@@ -20,11 +20,11 @@ fn work_out(v: u32, n: usize) -> [u8; Digits::MOST]
     store
 }
 
-// An atom in a text that ends at `end`. Where the whole store has room it is copied whole: what comes later stands over
+// An atom in the text that fills `out`. Where the whole store has room it is copied whole: what comes later stands over
 // its end.
-pub fn put_atom(out: &mut [u8], at: usize, end: usize, v: u32)
-    requires { (at + length (numeral v) ≤ end) × (end ≤ length out.old) }
-    ensures { Put out.old out.new at end (numeral v) }
+pub fn put_atom(out: &mut [u8], at: usize, v: u32)
+    requires { at + length (numeral v) ≤ length out.old }
+    ensures { Put out.old out.new at (length out.old) (numeral v) }
 {
     if v < 8 {
         out[at] = b'0' + v as u8;
@@ -32,7 +32,7 @@ pub fn put_atom(out: &mut [u8], at: usize, end: usize, v: u32)
     }
     let n = octal::count(v);
     let store = work_out(v, n);
-    if end - at < Digits::MOST {
+    if out.len() - at < Digits::MOST {
         out[at..at + n].copy_from_slice(&store[..n]);
     } else {
         out[at..at + Digits::MOST].copy_from_slice(&store);

@@ -57,7 +57,7 @@ fn write_text(t: Seen, x: usize, out: &mut [u8]) -> Result<u32, Refusal>
         (write_list Text (list_at (pool_of t.entry).cells x) ws out.old) }
 {
     let size = walk::measure(t, x, usable(out.len()))?;
-    put::put(t, x, out, size);
+    put::put(t, x, &mut out[..size]);
     let end = record_end(size);
     fill(out, size, end);
     Ok(end as u32)

@@ -1,11 +1,12 @@
 -- `totext::moved` meets its contract.
-use Rattle.std.proofs.Common.{rules, ◌≡◌, refl, sym, ◌∙◌, ◌<◌, Ok, Err, length, arith}
+use Rattle.std.proofs.Common.{rules, ◌≡◌, refl, sym, ◌∙◌, ◌<◌, Ok, Err, length, length-take-le, arith}
 use Rattle.answers.specs.Laws.Refusals.{refusal_some}
 use Rattle.groups.specs.Reading.{list_in}
 use Rattle.groups.specs.Laws.SizeLaws.{its_size, right-size}
 use Rattle.groups.specs.Laws.Taking.{taken_holds}
 use Rattle.text.specs.ListText.{text_of}
 use Rattle.text.specs.Writing.{usable}
+use Rattle.writing.specs.Laws.WroteLaws.{before_rest}
 use Rattle.totext.specs.Laws.MovedLaws.{size-refused, check-refused, output_short, list_put, moved-taken}
 use Rattle.totext.proofs.moved.Goals as goal
 
@@ -41,6 +42,12 @@ put-requires-clause-held c =
     let found = rw said at c.check.ensures in
     (_, taken_holds _ _ (right-size _ (sym c.in_ok-size_fault.ensures) ∙ found.0))
 
+pub put-requires-clause-out_len : goal.put-requires-clause-out_len
+put-requires-clause-out_len c =
+    let said : c.check.result ≡ Ok c.in_ok-c.c = search rules in
+    let found = rw said at c.check.ensures in
+    length-take-le c.in_ok-c.c.size c.args.out.now (omega (arith, c.usable.ensures)) ∙ found.1
+
 pub returns : goal.returns
 returns c =
     let a = c.args in
@@ -48,4 +55,4 @@ returns c =
     let found = rw said at c.check.ensures in
     let taken = right-size _ (sym c.in_ok-size_fault.ensures) ∙ found.0 in
     moved-taken a.groups.now a.out.now _ taken
-    (list_put _ _ taken a.out.now _ _ _ _ found.1 (omega (arith, c.usable.ensures)) c.record_end-end.ensures c.put.ensures c.fill.ensures refl)
+    (list_put _ _ taken a.out.now _ _ _ _ found.1 (omega (arith, c.usable.ensures)) c.record_end-end.ensures (before_rest _ _ _ _ found.1 c.put.ensures) c.fill.ensures refl)

@@ -1,6 +1,5 @@
 -- `writing::write_open` meets its contract.
 use Rattle.std.proofs.Common.{ap, arith, not}
-use Rattle.table.specs.View.{view}
 use Rattle.writing.specs.Laws.WroteLaws.{stands, no_holder_lem, not_sound, accepted}
 use Rattle.writing.proofs.write_open.Goals as goal
 

@@ -14,6 +14,10 @@ put_one xs at end b l h = record {
   room = length-set xs at b;
 }
 
+-- the end of the text, told otherwise
+pub put_until : {xs ys bs : List ℕ} {at n m : ℕ} → n ≡ m → Put xs ys at n bs → Put xs ys at m bs
+put_until {xs} {ys} {bs} {at} e p = subst (λ (k : ℕ). Put xs ys at k bs) e p
+
 -- nothing, and one after another
 pub put-none : (xs : List ℕ) (at end : ℕ) → Put xs xs at end []
 put-none xs at end =

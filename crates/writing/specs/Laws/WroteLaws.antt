@@ -50,6 +50,10 @@ fitting cs x u room n g e =
     let k : n ≡ length (text_of l) = g.size in
     (record { size = k; fits = writes n l w.0 (omega arith); short = omega (arith, w.1) }, omega (arith, w.1), omega (arith, w.1))
 
+-- a text that fills a part of its length stands before the rest
+pub before_rest : (t xs ys : List ℕ) (n : ℕ) → n ≡ length t → ys ≡ t → ys ++ drop n xs ≡ over t xs
+before_rest t xs ys n e f = ap (λ (b : List ℕ). b ++ drop n xs) f ∙ ap (λ (k : ℕ). t ++ drop k xs) e
+
 -- blanks behind a text
 filled : (t xs bs : List ℕ) (k : ℕ) → length bs ≡ k → paste (over t xs) (length t) bs k ≡ over (t ++ bs) xs
 filled t xs bs k e =

@@ -1,9 +1,5 @@
-use Prim.Native.Nat.{◌+◌, ◌-◌, ◌/◌, ◌≤◌}
-use mathlib.Core.Path.{refl}
-use mathlib.Core.List.{[], ◌∷◌}
-use native.Mathlib.Omega.{arith}
-use borrow.Author.Rules.{rules}
-use lib.ListN.{length, get_or, length-set}
+use Rattle.std.specs.Prelude.{◌+◌, ◌-◌, ◌/◌, ◌≤◌, [], ◌∷◌, length, get_or}
+use Rattle.std.proofs.Common.{refl, rules, arith, length-set}
 use Rattle.groups.specs.Reading.{list_in}
 use Rattle.text.specs.ListText.{text_of}
 use Rattle.totext.specs.Turns.{walk, Turned}
@@ -30,10 +26,9 @@ turns c =
     digit-turned n.stands (omega (arith, n.level, c.requires.le_depth)) c.loop-r-test.true (omega (arith, c.if-b-ge16.false)) (omega (arith, c.if-b-ne0.false))
 
 fits : (c : Else-b-ne0) →
-    (c.loop-r.r.to + 2 ≤ c.args.end) × (c.args.end ≤ length c.loop-r.out)
+    (c.loop-r.r.to + 2 ≤ length c.args.out.now) × (length c.args.out.now ≤ length c.loop-r.out)
 fits c =
-    let ends = c.requires.end_value in
-    (omega (arith, (turns c).stands.within, ends.0), omega (arith, c.loop-r.invariant.room, ends.1))
+    (omega (arith, (turns c).stands.within, c.requires.out_len), omega (arith, c.loop-r.invariant.room))
 
 pub bounds-out-to : goal.bounds-out-to
 bounds-out-to c = omega (arith, (fits c).0, (fits c).1)
@@ -51,7 +46,7 @@ overflow_add-r c =
 
 pub loop-r-preserved : goal.loop-r-preserved
 loop-r-preserved c =
-    ran_on c.loop-r.invariant (turns (goal.at.loop-r-preserved c).Else-b-ne0) refl (omega (arith, c.loop-r-test.true)) (put_two c.loop-r.out c.loop-r.r.to c.args.end _ 44 (fits (goal.at.loop-r-preserved c).Else-b-ne0).0 (fits (goal.at.loop-r-preserved c).Else-b-ne0).1)
+    ran_on c.loop-r.invariant (turns (goal.at.loop-r-preserved c).Else-b-ne0) refl (omega (arith, c.loop-r-test.true)) (put_two c.loop-r.out c.loop-r.r.to (length c.args.out.now) _ 44 (fits (goal.at.loop-r-preserved c).Else-b-ne0).0 (fits (goal.at.loop-r-preserved c).Else-b-ne0).1)
 
 pub shape_of-out : goal.shape_of-out
 shape_of-out c = c.loop-r.invariant.room

@@ -14,18 +14,18 @@ pub returns-then-v-lt8 : goal.returns-then-v-lt8
 returns-then-v-lt8 c =
     rw (one-digit _ c.if-v-lt8.true) (put_one _ _ _ (48 + c.args.v) (omega (arith, ap length (one-digit _ c.if-v-lt8.true))) (omega arith))
 
-pub returns-then-end-at-lt-MOST : goal.returns-then-end-at-lt-MOST
-returns-then-end-at-lt-MOST c =
+pub returns-then-out-at-lt-MOST : goal.returns-then-out-at-lt-MOST
+returns-then-out-at-lt-MOST c =
     let w = c.work_out-store in
     let k = c.count-n in
     let few = length-take-le k.result w.result (omega arith) in
-    put_store _ _ _ (numeral _) _ c.args.end k.result _ (put_mid-paste _ _ _ _ _ k.result c.copy_from_slice.ensures.after (omega arith) (omega (arith, few)))
+    put_store _ _ _ (numeral _) _ (length c.args.out.now) k.result _ (put_mid-paste _ _ _ _ _ k.result c.copy_from_slice.ensures.after (omega arith) (omega (arith, few)))
     (omega arith) (omega arith) (omega (arith, few)) k.ensures.0 (take-take k.result k.result w.result (omega arith) ∙ w.ensures.1) (omega arith)
 
-pub returns-else-end-at-lt-MOST : goal.returns-else-end-at-lt-MOST
-returns-else-end-at-lt-MOST c =
+pub returns-else-out-at-lt-MOST : goal.returns-else-out-at-lt-MOST
+returns-else-out-at-lt-MOST c =
     let w = c.work_out-store in
     let k = c.count-n in
-    let copied = c.copy_from_slice-else-end-at-lt-MOST.ensures.after in
+    let copied = c.copy_from_slice-else-out-at-lt-MOST.ensures.after in
     put_store _ _ w.result (numeral _) _ _ _ digits_most (put_mid-paste _ _ _ _ _ digits_most copied (omega arith) (omega arith))
     (omega arith) (omega arith) (omega arith) k.ensures.0 w.ensures.1 (omega arith)

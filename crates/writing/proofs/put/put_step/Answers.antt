@@ -1,5 +1,5 @@
 -- `writing::put::put_step` meets its contract.
-use Rattle.std.proofs.Common.{refl}
+use Rattle.std.proofs.Common.{refl, arith}
 use Rattle.writing.specs.Steps.{shuts, passes, opens}
 use Rattle.writing.specs.Laws.PutLaws.{put_one}
 use Rattle.writing.proofs.put.put_step.Goals as goal
@@ -13,4 +13,4 @@ returns-in-Atom c = let e = c.in-Atom.ensures in (_, passes e.0 e.1 c.put_pass.e
 pub returns-in-List : goal.returns-in-List
 returns-in-List c =
     let e = c.in-List.ensures in
-    (_, opens e.0 e.1 c.«open».ensures.0 c.«open».ensures.1, put_one _ _ _ 40 (c.requires.roomy.opens e.0 e.1) c.requires.end_in_bounds)
+    (_, opens e.0 e.1 c.«open».ensures.0 c.«open».ensures.1, put_one c.args.out.now c.args.w.size _ 40 (c.requires.roomy.opens e.0 e.1) (omega arith))
