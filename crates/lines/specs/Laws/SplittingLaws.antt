@@ -1,7 +1,7 @@
 -- The state after some bytes does not depend on how they were cut into chunks, and at the end of input it has the lines of the input.
 -- The proof goes along the bytes, with the whole row so far in place of its first 200 bytes.
-use Rattle.std.specs.Prelude.{◌≡◌, refl, Bool, true, false, cond, List, [], ◌∷◌, ◌++◌, map, ℕ, ◌+◌, ◌≤◌, ◌<◌, eqb, ltb, length, get_or, take}
-use Rattle.std.proofs.Common.{sym, ap, ◌∙◌, append_assoc, append-nil, arith, lt-ltb, le-ltb, le-leb, length-append, length-take, take_all, take-suc, add-one}
+use Rattle.std.specs.Prelude.{◌≡◌, refl, Bool, true, false, cond, List, [], ◌∷◌, ◌++◌, map, ℕ, suc, ◌+◌, ◌-◌, ◌≤◌, ◌<◌, eqb, ltb, length, get_or, take, drop}
+use Rattle.std.proofs.Common.{sym, ap, ◌∙◌, append_assoc, append-nil, arith, lt-ltb, le-ltb, le-leb, length-append, length-take, length-drop, take_all, take-suc, get_or-drop, add-one}
 use Rattle.std.proofs.Math.Decide.{dec_lt, dec_le}
 use Rattle.std.proofs.lemmas.Bool.{lt-leb}
 use Rattle.std.proofs.lemmas.List.{take-append-le}
@@ -36,10 +36,21 @@ unfolding eaten
 eaten-behind [] ls g = refl
 eaten-behind (c ∷ s) ls g = ap (λ (x : Gathering). eaten x s) (eat-behind ls g c) ∙ eaten-behind s ls (eat g c)
 
--- one byte more of a chunk
-pub eaten-more : (s : List ℕ) (i : ℕ) (g : Gathering) → i < length s → eaten g (take (i + 1) s) ≡ eat (eaten g (take i s)) (get_or s i 0)
+-- one byte more of a chunk, taken in from its place f on
+pub eaten-more : (s : List ℕ) (f t : ℕ) (g : Gathering) → f ≤ t → t < length s → eaten g (take (t + 1 - f) (drop f s)) ≡ eat (eaten g (take (t - f) (drop f s))) (get_or s t 0)
 unfolding eaten
-eaten-more s i g l = ap (λ (k : ℕ). eaten g (take k s)) (add-one i) ∙ ap (eaten g) (take-suc s i 0 l) ∙ eaten-append (take i s) (get_or s i 0 ∷ []) g
+eaten-more s f t g l h =
+    let n : t + 1 - f ≡ suc (t - f) = omega arith in
+    let q : f + (t - f) ≡ t = omega arith in
+    ap (λ (k : ℕ). eaten g (take k (drop f s))) n
+    ∙ ap (eaten g) (take-suc (drop f s) (t - f) 0 (simp length-drop (omega arith)))
+    ∙ eaten-append (take (t - f) (drop f s)) (get_or (drop f s) (t - f) 0 ∷ []) g
+    ∙ ap (eat (eaten g (take (t - f) (drop f s)))) (get_or-drop f s (t - f) 0 ∙ ap (λ (k : ℕ). get_or s k 0) q)
+
+-- from its start on
+pub eaten-next : (s : List ℕ) (i : ℕ) (g : Gathering) → i < length s → eaten g (take (i + 1) s) ≡ eat (eaten g (take i s)) (get_or s i 0)
+unfolding eaten
+eaten-next s i g l = ap (λ (k : ℕ). eaten g (take k s)) (add-one i) ∙ ap (eaten g) (take-suc s i 0 l) ∙ eaten-append (take i s) (get_or s i 0 ∷ []) g
 
 -- the row r is not whole yet: its first bytes are kept
 abbrev partly : List Line → List ℕ → Gathering
