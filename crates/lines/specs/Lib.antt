@@ -3,4 +3,5 @@ pub mod Commands
 pub mod Printed
 pub mod Splitting
 pub mod Meaning
+pub mod Tied
 pub mod Laws

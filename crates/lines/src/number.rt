@@ -8,6 +8,9 @@ pub struct Digits;
 
 impl Digits {
     pub const MOST: usize = 10;
+
+    // the largest number, which `specs/Tied` ties to the numbers of the definitions
+    pub const LARGEST: u64 = 4294967295;
 }
 
 // How many digits the bytes start with.
