@@ -16,10 +16,11 @@ use std::marker::Model;
 use table::{Cell, Shape};
 
 // Words for the largest table, of which the first are in use. None is before a NEW succeeds.
-#[derive(Drop)]
+#[derive(Clone, Drop)]
 pub struct Engine {
-    pub(crate) table: [u32; Shape::WORDS_MOST],
-    pub(crate) used: usize,
+    // public, since a caller begins a session on words of its own, and reads them after a step
+    pub table: [u32; Shape::WORDS_MOST],
+    pub used: usize,
 }
 
 // The words of work space for the largest table.

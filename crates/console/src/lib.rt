@@ -10,14 +10,14 @@ ghost use Rattle.console.specs.Standing.{mid, Stepped, Passed, Served};
 
 use answering::answer::PRINTED;
 use answering::engine::{Engine, WORK};
-use lines::gather::Line;
+use lines::gather::LineSoFar;
 use std::io::{Read, Write};
 
 // One step: bytes of the chunk are taken into the line, and if it is whole then, it is answered. Gives the rest of the
 // chunk behind a line, and how many bytes its answer prints.
 pub fn step<'a>(
     chunk: &'a [u8],
-    line: &mut Line,
+    line: &mut LineSoFar,
     engine: &mut Engine,
     work: &mut [u32; WORK],
     out: &mut [u8; PRINTED],
@@ -34,7 +34,7 @@ pub fn step<'a>(
 
 // At the end of input a last line with no line feed is a line. Gives the number of bytes to be written.
 pub fn finish(
-    line: &Line,
+    line: &LineSoFar,
     engine: &mut Engine,
     work: &mut [u32; WORK],
     out: &mut [u8; PRINTED],
@@ -71,7 +71,7 @@ fn serve<E: Eprint, W: Write>(
     rt: &E,
     output: &mut W,
     chunk: &[u8],
-    line: &mut Line,
+    line: &mut LineSoFar,
     engine: &mut Engine,
     work: &mut [u32; WORK],
     out: &mut [u8; PRINTED],
@@ -93,7 +93,7 @@ fn run<E: Eprint, R: Read, W: Write>(
     work: &mut [u32; WORK],
     out: &mut [u8; PRINTED],
 ) {
-    let mut line = Line::new();
+    let mut line = LineSoFar::new();
     let mut engine = Engine::new();
     // every loop must end: this one after more reads than a machine lives to make
     for _ in 0..u64::MAX {

@@ -6,15 +6,24 @@ ghost use Rattle.lines.specs.Meaning.{line_is, Ends};
 
 use std::marker::Model;
 
-// The bytes of a line so far, and whether there were more than it can have.
-#[derive(Drop)]
-pub struct Line {
-    bytes: [u8; Line::MOST],
-    len: usize,
-    over: bool,
+// A line, for its limit.
+#[derive(Clone, Copy)]
+pub struct Line;
+
+impl Line {
+    pub const MOST: usize = 200;
 }
 
-impl Model for Line {
+// The bytes of a line so far, and whether there were more than it can have.
+#[derive(Clone, Drop)]
+pub struct LineSoFar {
+    // public, since a caller begins a session on bytes of its own, and reads them after a step
+    pub bytes: [u8; Line::MOST],
+    pub len: usize,
+    pub over: bool,
+}
+
+impl Model for LineSoFar {
     ghost Value = { Part };
 
     ghost view = { λ l. record { kept = take l.len l.bytes; over = l.over } };
@@ -22,13 +31,11 @@ impl Model for Line {
     ghost invariant = { λ l. l.len ≤ line_most };
 }
 
-impl Line {
-    pub const MOST: usize = 200;
-
-    pub fn new() -> Line
+impl LineSoFar {
+    pub fn new() -> LineSoFar
         ensures { result ≡ empty }
     {
-        Line {
+        LineSoFar {
             bytes: [0; Line::MOST],
             len: 0,
             over: false,

@@ -1,7 +1,7 @@
 use Rattle.std.proofs.Common.{refl, ap, ◌∙◌, take_all}
 use Rattle.lines.specs.Splitting.{going, eaten}
 use Rattle.lines.specs.Laws.GatherLaws.{gathers_more, gathers_line}
-use Rattle.lines.proofs.gather.Line.gather.Goals as goal
+use Rattle.lines.proofs.gather.LineSoFar.gather.Goals as goal
 
 pub loop-i-init : goal.loop-i-init
 unfolding eaten
