@@ -3,8 +3,8 @@
 
 #![tactic(auto)]
 
-ghost use Rattle.std.specs.Prelude.{◌≤◌, length, MatchOption};
-ghost use Rattle.answering.specs.Kept.{Prints};
+ghost use Rattle.std.specs.Prelude.{◌+◌, ◌≤◌, length, MatchOption};
+ghost use Rattle.answering.specs.Kept.{reply_most, line_room, Prints};
 ghost use Rattle.console.specs.Serving.{closing};
 ghost use Rattle.console.specs.Standing.{mid, Stepped, Passed, Served};
 
@@ -20,8 +20,9 @@ pub fn step<'a>(
     line: &mut LineSoFar,
     engine: &mut Engine,
     work: &mut [u32; WORK],
-    out: &mut [u8; PRINTED],
+    out: &mut [u8],
 ) -> Option<(&'a [u8], usize)>
+    requires room { reply_most + line_room ≤ length out.old }
     ensures { MatchOption result
         (Passed (mid line.old engine.old) chunk.now (mid line.new engine.new))
         (λ r. Stepped (mid line.old engine.old) chunk.now r.0.now r.1 (mid line.new engine.new) out.new) }
@@ -37,8 +38,9 @@ pub fn finish(
     line: &LineSoFar,
     engine: &mut Engine,
     work: &mut [u32; WORK],
-    out: &mut [u8; PRINTED],
+    out: &mut [u8],
 ) -> usize
+    requires room { reply_most + line_room ≤ length out.old }
     ensures { Prints (closing (mid line.now engine.old)) result out.new }
 {
     if line.is_empty() {
