@@ -54,7 +54,7 @@ impl Engine {
         };
         let said = match order {
             Order::New(cells) => self.open(cells),
-            Order::Operation(code, a, b, v) => self.operate(work, code, a, b, v),
+            Order::Operation(code, a, b, v) => self.operate(work, u32::from(code), a, b, v),
             Order::Reading(h, text) => self.read(work, h, text, out),
             Order::Writing(h) => return self.write(work, h, out),
         };

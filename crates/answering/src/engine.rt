@@ -1,6 +1,5 @@
 // The engine of a session and its calls for a line: NEW, an operation, READ. Each gives what is to be told.
 ghost use Rattle.std.specs.Prelude.{◌≡◌, ◌≤◌, [], List, ℕ, length, take};
-ghost use Rattle.answers.specs.Operations.{code_no};
 ghost use Rattle.table.specs.Limits.{cells_most};
 ghost use Rattle.table.specs.View.{four, word_count};
 ghost use Rattle.table.specs.declared.Form.TheVariants.{Four};
@@ -8,7 +7,7 @@ ghost use Rattle.lines.specs.Splitting.{line_most};
 ghost use Rattle.answering.specs.Session.{opening, opened, operated, performing, took, reading_of};
 ghost use Rattle.answering.specs.Kept.{line_room, Says, plain};
 
-use answers::{Code, Kind, Refusal};
+use answers::{Kind, Refusal};
 use entry::Work;
 use groups::Stored;
 use lines::record::fill_record;
@@ -65,7 +64,7 @@ impl Engine {
         }
     }
 
-    pub(crate) fn open(&mut self, n: u32) -> Said
+    pub fn open(&mut self, n: u32) -> Said
         ensures { Says (opening self.old (opened n)) result self.new }
     {
         let s = Shape::four(n as usize);
@@ -79,17 +78,10 @@ impl Engine {
     }
 
     // One operation: a script of four words.
-    pub(crate) fn operate(
-        &mut self,
-        work: &mut [u32; WORK],
-        code: Code,
-        a: u32,
-        b: u32,
-        v: u32,
-    ) -> Said
-        ensures { Says (operated (performing self.old (code_no code) a b v)) result self.new }
+    pub fn operate(&mut self, work: &mut [u32; WORK], code: u32, a: u32, b: u32, v: u32) -> Said
+        ensures { Says (operated (performing self.old code a b v)) result self.new }
     {
-        let script = [u32::from(code), a, b, v];
+        let script = [code, a, b, v];
         let mut results = [u32::from(Kind::Nothing), 0];
         let table = &mut self.table[..self.used];
         let r = scripts::run(table, work, &script, &mut results);
@@ -101,13 +93,7 @@ impl Engine {
     }
 
     // READ's text goes through lent bytes, where it is filled.
-    pub(crate) fn read(
-        &mut self,
-        work: &mut [u32; WORK],
-        h: u32,
-        text: &[u8],
-        page: &mut [u8],
-    ) -> Said
+    pub fn read(&mut self, work: &mut [u32; WORK], h: u32, text: &[u8], page: &mut [u8]) -> Said
         requires { (length text.now ≤ line_most) × (line_room ≤ length page.old) }
         ensures { Says (took (reading_of self.old h text.now)) result self.new }
     {

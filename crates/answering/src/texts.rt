@@ -1,5 +1,5 @@
 // WRITE's text as a line of its own.
-ghost use Rattle.std.specs.Prelude.{◌≡◌, length};
+ghost use Rattle.std.specs.Prelude.{◌≡◌, ◌≤◌, length};
 ghost use Rattle.answering.specs.Kept.{line_room, Texts};
 ghost use Rattle.answering.specs.Trim.{trimmed};
 
@@ -9,8 +9,8 @@ use groups::Stored;
 use records::Record;
 
 // How many bytes of a text are left without the blanks at its end.
-fn without_fill(text: &[u8]) -> usize
-    ensures { result ≡ trimmed text.now }
+pub fn without_fill(text: &[u8]) -> usize
+    ensures { (result ≡ trimmed text.now) × (result ≤ length text.now) }
 {
     match text.iter().rposition(|b| *b != b' ') {
         Some(last) => last + 1,
@@ -20,12 +20,7 @@ fn without_fill(text: &[u8]) -> usize
 
 impl Engine {
     // The bytes of WRITE's text with a line feed, or the answer that refuses it: the number that `writing::write` gives to C.
-    pub(crate) fn write_text(
-        &self,
-        work: &mut [u32; WORK],
-        h: u32,
-        room: &mut [u8],
-    ) -> Result<usize, u32>
+    pub fn write_text(&self, work: &mut [u32; WORK], h: u32, room: &mut [u8]) -> Result<usize, u32>
         requires { length room.old ≡ line_room }
         ensures { Texts self.now h result room.new }
     {

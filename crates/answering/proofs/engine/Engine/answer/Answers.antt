@@ -31,7 +31,7 @@ returns c =
           (rw (w.said-is, w.self-is) w.open-said.ensures) c.tell.ensures
       | in-Operation w ↦
           speaks_order us m.self s _ _ m.said _ _ (ap (λ (o : Order). meant (Some o)) (sym w.in-Operation.is) ∙ c.in-Some-parse.ensures) refl
-          (rw (w.said-is, w.self-is) w.operate-said.ensures) c.tell.ensures
+          (rw (w.said-is, w.self-is) (rw w.from.ensures at w.operate-said.ensures)) c.tell.ensures
       | in-Reading w ↦
           speaks_order us m.self s _ _ m.said _ _ (ap (λ (o : Order). meant (Some o)) (sym w.in-Reading.is) ∙ c.in-Some-parse.ensures) refl
           (rw (w.said-is, w.self-is) w.read-said.ensures) c.tell.ensures

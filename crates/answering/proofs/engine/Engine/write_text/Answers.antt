@@ -76,12 +76,12 @@ slice_bounds-without_fill-end-2 c =
 pub bounds-room-n : goal.bounds-room-n
 bounds-room-n c =
     let w = (goal.at.bounds-room-n c).After-write-r in
-    line_place c.args.room.now c.write-r.new.out _ c.requires (new-long w) (placed w c.if-r-ne-DONE.false _ c.without_fill-n.ensures)
+    line_place c.args.room.now c.write-r.new.out _ c.requires (new-long w) (placed w c.if-r-ne-DONE.false _ c.without_fill-n.ensures.0)
 
 pub overflow_add-result : goal.overflow_add-result
 overflow_add-result c =
     let w = (goal.at.overflow_add-result c).After-write-r in
-    omega (arith, placed w c.if-r-ne-DONE.false _ c.without_fill-n.ensures)
+    omega (arith, placed w c.if-r-ne-DONE.false _ c.without_fill-n.ensures.0)
 
 pub returns : goal.returns
 returns c =
@@ -89,5 +89,5 @@ returns c =
     let d = c.if-r-ne-DONE.false in
     let t = text w d in
     texts_done c.args.self.now c.args.h c.write-r.result (old w) c.write-r.new.out (told w) (drop text_most c.args.room.now) c.without_fill-n.result d
-    (c.without_fill-n.ensures ∙ trims (list w) (old w) _ _ t.1 _ t.0)
-    (line_place c.args.room.now c.write-r.new.out _ c.requires (new-long w) (placed w d _ c.without_fill-n.ensures))
+    (c.without_fill-n.ensures.0 ∙ trims (list w) (old w) _ _ t.1 _ t.0)
+    (line_place c.args.room.now c.write-r.new.out _ c.requires (new-long w) (placed w d _ c.without_fill-n.ensures.0))
