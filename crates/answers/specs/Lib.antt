@@ -4,3 +4,4 @@ pub mod Laws
 pub mod Operations
 pub mod Outcomes
 pub mod Refusals
+pub mod Tied

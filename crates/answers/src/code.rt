@@ -19,6 +19,11 @@ pub enum Code {
     Length,
 }
 
+impl Code {
+    // the codes end here
+    pub const LAST: u32 = 11;
+}
+
 // The operation of a code, if there is one.
 impl TryFrom<u32> for Code {
     type Error = Refusal;

@@ -6,7 +6,6 @@
 ghost use Rattle.std.specs.Prelude.{◌≡◌};
 ghost use Rattle.answers.specs.Answers.{DONE, refused, done, outcome, moved, not_moved};
 ghost use Rattle.answers.specs.Outcomes.{outcome_of, stopped_of, moved_of};
-ghost use Rattle.answers.specs.Refusals.{refusal_no};
 
 pub mod code;
 pub mod refusal;
@@ -28,10 +27,10 @@ impl Outcome {
     // No refusal has this number.
     pub const DONE: u32 = 0;
 
-    pub fn refused(refusal: Refusal) -> Outcome
-        ensures { result ≡ refused (refusal_no refusal) }
+    pub fn refused(answer: u32) -> Outcome
+        ensures { result ≡ refused answer }
     {
-        Outcome::stopped(refusal, 0)
+        Outcome::stopped(answer, 0)
     }
 
     pub fn done(count: u32) -> Outcome
@@ -44,13 +43,10 @@ impl Outcome {
     }
 
     // A script that stops at an operation gives the number of those done before it.
-    pub fn stopped(refusal: Refusal, count: u32) -> Outcome
-        ensures { result ≡ outcome (refusal_no refusal) count }
+    pub fn stopped(answer: u32, count: u32) -> Outcome
+        ensures { result ≡ outcome answer count }
     {
-        Outcome {
-            answer: u32::from(refusal),
-            count,
-        }
+        Outcome { answer, count }
     }
 }
 
@@ -61,7 +57,7 @@ impl From<Result<u32, Refusal>> for Outcome {
     fn from(r: Result<u32, Refusal>) -> Outcome {
         match r {
             Ok(count) => Outcome::done(count),
-            Err(refusal) => Outcome::refused(refusal),
+            Err(refusal) => Outcome::refused(u32::from(refusal)),
         }
     }
 }
@@ -87,7 +83,7 @@ impl From<Result<u32, Stopped>> for Outcome {
     fn from(r: Result<u32, Stopped>) -> Outcome {
         match r {
             Ok(count) => Outcome::done(count),
-            Err(s) => Outcome::stopped(s.refusal, s.count),
+            Err(s) => Outcome::stopped(u32::from(s.refusal), s.count),
         }
     }
 }
@@ -102,11 +98,11 @@ pub struct Moved {
 }
 
 impl Moved {
-    pub fn refused(refusal: Refusal) -> Moved
-        ensures { result ≡ not_moved (refusal_no refusal) }
+    pub fn refused(answer: u32) -> Moved
+        ensures { result ≡ not_moved answer }
     {
         Moved {
-            answer: u32::from(refusal),
+            answer,
             taken: 0,
             written: 0,
         }
@@ -136,7 +132,7 @@ impl From<Result<Passed, Refusal>> for Moved {
     fn from(r: Result<Passed, Refusal>) -> Moved {
         match r {
             Ok(p) => Moved::done(p.taken, p.written),
-            Err(refusal) => Moved::refused(refusal),
+            Err(refusal) => Moved::refused(u32::from(refusal)),
         }
     }
 }

@@ -14,6 +14,7 @@ ghost use Rattle.table.specs.View.{four, word_count, holder_count, greatest_coun
 ghost use Rattle.table.specs.View.{Table, IsCell, Shows};
 
 // The limits of cells of four words.
+#[derive(Clone, Copy)]
 pub struct Cell;
 
 impl Cell {
@@ -26,12 +27,13 @@ impl Cell {
 }
 
 // A cell in two words: type, count and successor in the first, the element in the second.
-struct Pair;
+#[derive(Clone, Copy)]
+pub struct Pair;
 
 impl Pair {
-    const MOST: usize = 8000;
+    pub const MOST: usize = 8000;
 
-    const WORDS: usize = 2;
+    pub const WORDS: usize = 2;
 
     // what one of the type adds to the first word, and one of the count
     const KIND: u32 = 1 << 31;
@@ -43,6 +45,7 @@ impl Pair {
 }
 
 // The limits of holders, which are cell numbers.
+#[derive(Clone, Copy)]
 pub struct Holder;
 
 impl Holder {

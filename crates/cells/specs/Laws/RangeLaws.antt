@@ -1,6 +1,6 @@
 -- What soundness tells the code: cell numbers are in range.
-use Rattle.std.specs.Prelude.{◌≡◌, List, [], ◌∷◌, ℕ, ◌+◌, ◌≤◌, length}
-use Rattle.std.proofs.Common.{sym, inl, inr, arith}
+use Rattle.std.specs.Prelude.{◌≡◌, ◌≢◌, List, [], ◌∷◌, ℕ, ◌+◌, ◌≤◌, length}
+use Rattle.std.proofs.Common.{sym, ap, ◌∙◌, subst, inl, inr, arith}
 use Rattle.table.specs.declared.Shape.{Shape}
 use Rattle.pool.specs.Laws.Edit.{live_cell, mark-past}
 use Rattle.pool.specs.Operations as operations
@@ -22,6 +22,17 @@ free_high f cs r a h = go h.chain.0 h.chain.1 h.chain.2
     go : (fs : List ℕ) → Chain cs f fs → ((c : ℕ) → occ fs c + a c ≡ mark cs c) → f ≤ length cs
     go [] k m = omega (arith, k)
     go (g ∷ gs) k m = (mark-past cs f (omega (arith, m f, same_of g f (sym k.0)))).1
+
+pub free-next_high : (f : ℕ) (cs : List Cell) (r a : ℕ → ℕ) → Held f cs r a → f ≢ 0 → next_of cs f ≤ length cs
+unfolding Chain tally
+free-next_high f cs r a h n = go h.chain.0 h.chain.1 h.chain.2
+  where
+    go : (fs : List ℕ) → Chain cs f fs → ((c : ℕ) → occ fs c + a c ≡ mark cs c) → next_of cs f ≤ length cs
+    go [] k m = absurd (n k)
+    go (g ∷ []) k m = subst (λ u. next_of cs u ≤ length cs) (sym k.0) (omega (arith, k.2))
+    go (g ∷ i ∷ gs) k m =
+        let q : next_of cs f ≡ i = ap (next_of cs) k.0 ∙ k.2.0 in
+        (mark-past cs (next_of cs f) (omega (arith, m (next_of cs f), same_of i (next_of cs f) (sym q)))).1
 
 -- a sound pool, in range
 pub record Ranged (p : Pool) : Type 0 where

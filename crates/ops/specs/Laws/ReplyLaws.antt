@@ -1,7 +1,8 @@
 -- What a reply tells of its operation: done or refused, and what it leaves.
-use Rattle.std.specs.Prelude.{◌≡◌, refl, Bool, true, false, cond, ℕ, eqb, Ok, Err}
-use Rattle.std.proofs.Common.{eqb-true}
+use Rattle.std.specs.Prelude.{◌≡◌, refl, Bool, true, false, cond, ℕ, ◌<◌, eqb, Ok, Err}
+use Rattle.std.proofs.Common.{arith, eqb-true}
 use Rattle.answers.specs.Answers.{DONE}
+use Rattle.answers.specs.Laws.Refusals.{refusal_some}
 use Rattle.answers.specs.Operations.{kind_told, value_told}
 use Rattle.answers.specs.Refusals.{refusal_no}
 use Rattle.answers.specs.declared.refusal.Refusal.{Refusal}
@@ -25,9 +26,9 @@ did p o x e = go (eqb (refusal p o) DONE) refl e
         record { done = eqb-true (refusal p o) DONE q; kind = λ i. (z i).0; value = λ i. (z i).1 }
     go false q h = cc
 
-pub stopped : (p : Pool) (o : Operation) (k : Refusal) → numbers (Err k) ≡ reply p o → refusal p o ≡ refusal_no k
+pub stopped : (p : Pool) (o : Operation) (k : Refusal) → numbers (Err k) ≡ reply p o → (refusal p o ≡ refusal_no k) × (DONE < refusal_no k)
 unfolding reply
-stopped p o k e = go (eqb (refusal p o) DONE) refl e
+stopped p o k e = (go (eqb (refusal p o) DONE) refl e, omega (arith, refusal_some k))
   where
     go : (b : Bool) → eqb (refusal p o) DONE ≡ b → numbers (Err k) ≡ cond b (said (effect p o)) (Err (refusal p o)) → refusal p o ≡ refusal_no k
     go true q h = cc

@@ -53,14 +53,17 @@ parts {p} {a} {b} e =
 
 module _ {p : Pool} {o : Operation} (h : Opened p o) (nulls : null_list p o ≡ eqb (holder p o.a) 0)
     (fills : occupied p o ≡ not (eqb (holder p o.b) 0)) where
-  pub says-parting : (k : Refusal) → refusal_no k ≡ parting p o.a o.b → refusal p o ≡ refusal_no k
+  pub says-parting : parting p o.a o.b ≢ DONE → refusal p o ≡ parting p o.a o.b
   unfolding parting
-  says-parting k n = go (eqb (holder p o.a) 0) (not (eqb (holder p o.b) 0)) nulls fills n
+  says-parting n = go (eqb (holder p o.a) 0) (not (eqb (holder p o.b) 0)) nulls fills n
     where
-      go : (x y : Bool) → null_list p o ≡ x → occupied p o ≡ y → refusal_no k ≡ cond x NULL (cond y OCCUPIED DONE) → refusal p o ≡ refusal_no k
-      go true y e f m = says-null h e ∙ sym m
-      go false true e f m = says-occupied h e f ∙ sym m
-      go false false e f m = absurd (refusal_some k m)
+      go : (x y : Bool) → null_list p o ≡ x → occupied p o ≡ y → cond x NULL (cond y OCCUPIED DONE) ≢ DONE → refusal p o ≡ cond x NULL (cond y OCCUPIED DONE)
+      go true y e f m = says-null h e
+      go false true e f m = says-occupied h e f
+      go false false e f m = absurd (m refl)
+
+  pub parting-refused : (k : Refusal) → refusal_no k ≡ parting p o.a o.b → refusal p o ≡ refusal_no k
+  parting-refused k e = says-parting (λ d. refusal_some k (e ∙ d)) ∙ sym e
 
   -- past them the other two tests decide
   module _ (q : Parts p o.a o.b) where

@@ -122,7 +122,7 @@ module _ {v₀ v : Lent} {ss rs₀ : List ℕ} {q : Run} {rs : List ℕ} {i : �
       let p = v.pool in
       let o : Operation = operation_at ss i in
       let k = refusal_no r in
-      let e = stopped p o r g.told in
+      let (e, _) = stopped p o r g.told in
       let f : eqb k DONE ≡ false = ne_eqb k DONE (refusal_some r) in
       let is : pool_after p o ≡ p = rw (e, f) refl in
       let h = ended k (left-refused ss i p k ls e (refusal_some r)) lr in

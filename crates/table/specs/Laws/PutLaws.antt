@@ -68,3 +68,11 @@ elem_stored a i k v ws e = rw (eq-eqb k 1 e) refl
 pub word-stored : (a i k v x : ℕ) (ws : List ℕ) → k ≢ 1 → x ≡ with_part k v (get_or ws (a + 2 * i) 0) → set ws (a + 2 * i) x ≡ stored_two a i k v ws
 unfolding stored_two
 word-stored a i k v x ws n e = rw (ne_eqb k 1 n) (ap (λ (u : ℕ). set ws (a + 2 * i) u) e)
+
+pub stored-length : (a i k v : ℕ) (ws : List ℕ) → length (stored_two a i k v ws) ≡ length ws
+unfolding stored_two
+stored-length a i k v ws = go (eqb k 1)
+  where
+    go : (b : Bool) → length (cond b (set ws (a + 2 * i + 1) v) (set ws (a + 2 * i) (with_part k v (get_or ws (a + 2 * i) 0)))) ≡ length ws
+    go true = length-set ws (a + 2 * i + 1) v
+    go false = length-set ws (a + 2 * i) (with_part k v (get_or ws (a + 2 * i) 0))

@@ -1,14 +1,14 @@
 -- `ops::drop::adv` meets its contract.
 use Rattle.std.proofs.Common.{refl, sym}
 use Rattle.ops.specs.Laws.GivesLaws.{refuses_with, does, first_said}
-use Rattle.ops.specs.Laws.TestLaws.{parts, says-parting, parting-done}
+use Rattle.ops.specs.Laws.TestLaws.{parts, parting-refused, parting-done}
 use Rattle.ops.specs.Laws.WordLaws.{two}
 use Rattle.pool.specs.Script.{effect}
 use Rattle.ops.proofs.drop.adv.Goals as goal
 
 pub returns-in_err-parting : goal.returns-in_err-parting
 returns-in_err-parting c v =
-    refuses_with _ c.from_residual.ensures.1 (says-parting (two refl c.requires refl) refl refl _ c.in_err-parting.ensures)
+    refuses_with _ c.from_residual.ensures.1 (parting-refused (two refl c.requires refl) refl refl _ c.in_err-parting.ensures)
 
 pub first-e-requires-clause-a_nonzero : goal.first-e-requires-clause-a_nonzero
 first-e-requires-clause-a_nonzero c = (parts (sym c.in_ok-parting.ensures)).filled

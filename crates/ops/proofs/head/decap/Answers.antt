@@ -2,7 +2,7 @@
 use Rattle.std.proofs.Common.{refl, sym, ◌<◌, ◌≤◌, lt-ltb, le-ltb}
 use Rattle.cells.specs.Laws.LentLaws.{holder-head}
 use Rattle.ops.specs.Laws.GivesLaws.{refuses, refuses_with, does, first_said}
-use Rattle.ops.specs.Laws.TestLaws.{parts, says-parting, parting-shared, parting-done}
+use Rattle.ops.specs.Laws.TestLaws.{parts, parting-refused, parting-shared, parting-done}
 use Rattle.ops.specs.Laws.WordLaws.{two}
 use Rattle.pool.specs.Pool.{count_of, holder}
 use Rattle.pool.specs.Script.{effect}
@@ -18,7 +18,7 @@ own c = rw (← c.holder_of-x.ensures.0, ← c.count_of.ensures.0) c.if-count_of
 
 pub returns-in_err-parting : goal.returns-in_err-parting
 returns-in_err-parting c v =
-    refuses_with _ c.from_residual.ensures.1 (says-parting (two refl c.requires refl) refl refl _ c.in_err-parting.ensures)
+    refuses_with _ c.from_residual.ensures.1 (parting-refused (two refl c.requires refl) refl refl _ c.in_err-parting.ensures)
 
 pub count_of-requires : goal.count_of-requires
 count_of-requires c =
