@@ -3,3 +3,4 @@ pub mod Numbered
 pub mod Several
 pub mod Putting
 pub mod Laws
+pub mod Tied

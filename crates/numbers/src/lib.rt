@@ -15,8 +15,8 @@ pub struct Number {
 }
 
 impl Number {
-    // Numbers lie below 2^33.
-    const END: u64 = 8589934592;
+    // Numbers lie below 2^33, which `specs/Tied` ties to the number of the definitions.
+    pub const END: u64 = 8589934592;
 }
 
 // What groups come to, the last of them, and the place behind it.
