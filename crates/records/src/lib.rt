@@ -2,7 +2,7 @@
 
 #![tactic(auto)]
 
-ghost use Rattle.std.specs.Prelude.{◌≡◌, ◌%◌, length};
+ghost use Rattle.std.specs.Prelude.{◌≡◌, ◌%◌, length, drop};
 ghost use Rattle.answers.specs.Refusals.{answer_no};
 ghost use Rattle.text.specs.Limits.{record_bytes};
 ghost use Rattle.text.specs.Text.{at_end, size_fault};
@@ -44,17 +44,29 @@ fn is_blank(bytes: &[u8]) -> bool
     bytes[0] == b' ' && differing(bytes) == 0
 }
 
-// Nothing but blanks in the records that are left.
-pub fn at_end(text: &[u8]) -> bool
-    requires { length text.now % record_bytes ≡ 0 }
-    ensures { result ≡ at_end text.now }
+// Nothing but blanks in records.
+fn all_blank(records: &[u8]) -> bool
+    requires { length records.now % record_bytes ≡ 0 }
+    ensures { result ≡ at_end records.now }
 {
-    for record in text.chunks_exact(Record::BYTES) {
+    for record in records.chunks_exact(Record::BYTES) {
         if !is_blank(record) {
             return false;
         }
     }
     true
+}
+
+// Nothing but blanks from `from` on, which begins a record, or is the end or lies behind it.
+pub fn at_end(text: &[u8], from: usize) -> bool
+    requires record_bytes_len { length text.now % record_bytes ≡ 0 }
+    requires record_bytes_value { from % record_bytes ≡ 0 }
+    ensures { result ≡ at_end (drop from text.now) }
+{
+    match text.get(from..) {
+        Some(left) => all_blank(left),
+        None => true,
+    }
 }
 
 // What is wrong with a text before it is read as a list: TEXT SIZE or END.
@@ -64,7 +76,7 @@ pub fn size_fault(text: &[u8]) -> Result<(), Refusal>
     if text.len() % Record::BYTES != 0 || text.len() > Record::TEXT {
         return Err(Refusal::TextSize);
     }
-    if at_end(text) {
+    if at_end(text, 0) {
         return Err(Refusal::End);
     }
     Ok(())

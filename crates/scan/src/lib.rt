@@ -85,7 +85,7 @@ fn rest_start(text: &[u8]) -> usize
         return text.len();
     };
     let start = taken as usize;
-    if records::at_end(&text[start..]) {
+    if records::at_end(text, start) {
         text.len()
     } else {
         start

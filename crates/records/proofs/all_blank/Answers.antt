@@ -3,7 +3,7 @@ use Rattle.std.proofs.Common.{sym, ◌∙◌, eq-eqb, eqb-true, ne_eqb, arith}
 use Rattle.std.proofs.lemmas.Bool.{eqb-false}
 use Rattle.std.specs.Slice.Iter.{chunks_exact_rest}
 use Rattle.records.proofs.Blanks.{behind, still_whole, none_left}
-use Rattle.records.proofs.at_end.Goals as goal
+use Rattle.records.proofs.all_blank.Goals as goal
 
 pub returns-then-not-is_blank : goal.returns-then-not-is_blank
 returns-then-not-is_blank c =
