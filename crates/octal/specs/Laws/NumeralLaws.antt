@@ -46,6 +46,13 @@ digits_by_bit v l = go (leading_top 32 (v / 2 * 2 + 1) (omega arith) (omega arit
     go (zero, e, lo, hi) = let q = ap length (one-digit v (omega arith)) in (omega arith, omega arith)
     go (suc i, e, lo, hi) = let q = by_bit 10 v (suc i) (under v l) (omega (arith, pow-add 2 1 i)) (omega arith) in (omega arith, omega arith)
 
+-- the same by the place of the highest bit, counted from 0
+pub digits_by_place : (v : ℕ) → v < atoms_end → ((31 - count_leading_zeros 32 (v / 2 * 2 + 1)) / 3 + 1 ≡ length (numeral v)) × (length (numeral v) ≤ digits_most)
+digits_by_place v l =
+    let (j, e, lo, hi) = leading_top 32 (v / 2 * 2 + 1) (omega arith) (omega arith) in
+    let q = digits_by_bit v l in
+    (omega (arith, e, q.0), q.1)
+
 pub some_digits : (v : ℕ) → 1 ≤ length (numeral v)
 unfolding numeral
 some_digits v =
