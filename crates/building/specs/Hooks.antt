@@ -8,6 +8,10 @@ use Rattle.building.specs.Reading.{hang, hang_new}
 use Rattle.building.specs.declared.hook.Hook.{Hook}
 use Rattle.building.specs.declared.hook.Hook.TheVariants.{Next, Elem}
 
+-- cell 0 stands for the holder; else `inside` 0 is the successor of the cell, and any other its element
+abbrev pub link_at : ℕ → ℕ → Link
+link_at cell inside = cond (eqb cell 0) in_holder (cond (eqb inside 0) (in_next cell) (in_elem cell))
+
 abbrev pub link_of : Hook → Link
 link_of (Next c) = cond (eqb c 0) in_holder (in_next c)
 link_of (Elem c) = in_elem c

@@ -1,7 +1,7 @@
 // Where the number of the next cell goes, and a cell that begins there.
 ghost use Rattle.std.specs.Prelude.{◌≡◌, ◌≤◌, ◌<◌};
 ghost use Rattle.table.specs.View.{holder_count, view, Table, Shows};
-ghost use Rattle.building.specs.Hooks.{link_of, hook_cell, InTable, Hangs, Hung};
+ghost use Rattle.building.specs.Hooks.{link_at, link_of, hook_cell, InTable, Hangs, Hung};
 ghost use Rattle.building.specs.Reading.{hang};
 
 use table::Shape;
@@ -16,6 +16,19 @@ pub enum Hook {
 
 impl Hook {
     pub const HOLDER: Hook = Hook::Next(0);
+
+    // By a cell and whether it is its element: cell 0 is the holder, whatever `inside` says.
+    pub fn at(cell: usize, inside: usize) -> Hook
+        ensures link { link_of result ≡ link_at cell inside }
+        ensures cell { hook_cell result ≡ cell }
+        ensures in_table { (s : Shape) → cell ≤ s.cells → InTable s result }
+    {
+        if cell == 0 || inside == 0 {
+            Hook::Next(cell)
+        } else {
+            Hook::Elem(cell)
+        }
+    }
 
     pub fn cell(self) -> usize
         ensures { result ≡ hook_cell self }
