@@ -1,8 +1,9 @@
--- Writing begins with "(", goes on with the characters of a turn, for which there is room, and ends with the text.
-use Rattle.std.specs.Prelude.{ℕ, ◌+◌, ◌≤◌, ◌<◌, ◌≡◌, refl, ◌≢◌, List, ◌++◌, leb, length, take, set, replicate}
-use Rattle.std.proofs.Common.{sym, ap, subst, ◌∙◌, arith, length-set, take-add, leb-true, leb-false}
+-- Writing begins with "(", goes on with the characters of a turn, for which there is room, and ends with the text before the old bytes.
+use Rattle.std.specs.Prelude.{ℕ, ◌+◌, ◌≤◌, ◌<◌, ◌≡◌, refl, ◌≢◌, List, ◌++◌, leb, length, take, drop, set, replicate}
+use Rattle.std.proofs.Common.{sym, ap, subst, ◌∙◌, arith, take-append-drop, length-set, take-add, drop-set-lt, leb-true, leb-false}
 use Rattle.std.proofs.Math.Seq.{take-length, take-append_seam}
 use Rattle.answers.specs.Answers.{DONE}
+use Rattle.calls.specs.Entry.{over}
 use Rattle.pool.specs.Pool.{Cell, kind_of}
 use Rattle.text.specs.Limits.{levels}
 use Rattle.text.specs.Laws.OpenLists.{opens_body}
@@ -71,9 +72,20 @@ module _ (cs : List Cell) (t old : List ℕ) (end : ℕ) (out after : List ℕ) 
         omega (arith, d.size, d.more),
       )
 
-pub put_ends : (cs : List Cell) (x : ℕ) (xs out after : List ℕ) (w : Walk) → Putting cs (text_at cs x) (set xs 0 40) (length (text_at cs x)) out after w
+pub put_ends : (cs : List Cell) (x end : ℕ) (xs out after : List ℕ) (w : Walk) → Putting cs (text_at cs x) (set xs 0 40) end out after w → Fitting cs x end
+    → w.depth ≡ 0 → out ≡ over (text_at cs x) xs
+put_ends cs x end xs out after w g f z =
+    let t = text_at cs x in
+    let q : w.size ≡ length t = (ended cs t end after w g.walks z).0 in
+    sym (take-append-drop end out) ∙ ap (λ (b : List ℕ). take end out ++ b) (g.behind ∙ drop-set-lt end xs 0 40 (some_text cs x end f))
+    ∙ ap (λ (k : ℕ). take k out ++ drop end xs) (f.size ∙ sym q) ∙ ap (λ (b : List ℕ). b ++ drop end xs)
+    (g.front ∙ ap (λ (k : ℕ). take k t) q ∙ take-length t)
+    ∙ ap (λ (k : ℕ). t ++ drop k xs) f.size
+
+-- and fills bytes that are no more than it
+pub put_fills : (cs : List Cell) (x : ℕ) (xs out after : List ℕ) (w : Walk) → Putting cs (text_at cs x) (set xs 0 40) (length (text_at cs x)) out after w
     → length xs ≡ length (text_at cs x) → w.depth ≡ 0 → out ≡ text_at cs x
-put_ends cs x xs out after w g f z =
+put_fills cs x xs out after w g f z =
     let t = text_at cs x in
     let q : w.size ≡ length t = (ended cs t (length t) after w g.walks z).0 in
     let e : w.size ≡ length out = q ∙ sym f ∙ sym (length-set xs 0 40) ∙ sym g.room in

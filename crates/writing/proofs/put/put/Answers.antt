@@ -7,7 +7,7 @@ use Rattle.writing.specs.Measures.{text_at, Fitting}
 use Rattle.writing.specs.Put.{Roomy}
 use Rattle.writing.specs.Putting.{Putting}
 use Rattle.writing.specs.Laws.PutLaws.{put_until}
-use Rattle.writing.specs.Laws.PuttingLaws.{some_text, put-begins, shallow, roomy, put_on, put_ends}
+use Rattle.writing.specs.Laws.PuttingLaws.{some_text, put-begins, shallow, roomy, put_on, put_fills}
 use Rattle.writing.specs.Laws.WalkingLaws.{may_turn}
 use Rattle.writing.proofs.put.put.Goals.{After-put_step-w}
 use Rattle.writing.proofs.put.put.Goals as goal
@@ -58,4 +58,4 @@ loop-w-preserved c = (went (goal.at.loop-w-preserved c).After-put_step-w).0
 
 pub returns : goal.returns
 returns c =
-    put_ends _ _ _ _ _ _ c.loop-w.invariant c.requires.fitting.size (omega arith)
+    put_fills _ _ _ _ _ _ c.loop-w.invariant c.requires.fitting.size (omega arith)
