@@ -1,7 +1,9 @@
--- Writing begins with "(", goes on with the characters of a turn, and ends with the text.
+-- Writing begins with "(", goes on with the characters of a turn, and ends with the text before the old bytes.
 use Rattle.std.specs.Prelude.{ℕ, ◌+◌, ◌-◌, ◌/◌, ◌≤◌, ◌<◌, ◌≡◌, refl, Some, IsSome, List, [], ◌∷◌, ◌++◌, length, take, drop, set, get_or, replicate}
-use Rattle.std.proofs.Common.{sym, ap, subst, ◌∙◌, append_assoc, append-nil, arith, take-append-drop, length-drop, length-set, take-add}
+use Rattle.std.proofs.Common.{sym, ap, subst, ◌∙◌, append_assoc, append-nil, arith, take-append-drop, length-drop, take-add, drop-set-lt}
 use Rattle.std.proofs.Math.Seq.{take-length}
+use Rattle.std.proofs.lemmas.List.{drop_all}
+use Rattle.calls.specs.Entry.{over}
 use Rattle.groups.specs.Groups.{numbers_end, number, elements, list_number}
 use Rattle.lists.specs.Lst.{Lst, len}
 use Rattle.numbers.specs.declared.Number.{Number}
@@ -108,10 +110,19 @@ ended s t kept w g z = none g.opened g.stands.deep g.text
     none [] d e = omega (arith, ap length e, length-drop w.to t, g.within)
     none (l ∷ ls) d e = absurd (omega arith)
 
-pub put_ends : (s : List ℕ) (l : Lst) (xs out kept : List ℕ) (w : Walk) → Putting s (text_of l) (set xs 0 40) (length (text_of l)) out kept w
-    → length xs ≡ length (text_of l) → w.depth ≡ 0 → out ≡ text_of l
-put_ends s l xs out kept w g f z =
+pub put_ends : (s : List ℕ) (l : Lst) (end : ℕ) (xs out kept : List ℕ) (w : Walk) → Putting s (text_of l) (set xs 0 40) end out kept w
+    → end ≡ length (text_of l) → w.depth ≡ 0 → out ≡ over (text_of l) xs
+put_ends s l end xs out kept w g e z =
     let t = text_of l in
     let q : w.to ≡ length t = ended s t kept w g.stands z in
-    let e : w.to ≡ length out = q ∙ sym f ∙ sym (length-set xs 0 40) ∙ sym g.room in
-    sym (ap (λ (k : ℕ). take k out) e ∙ take-length out) ∙ g.front ∙ ap (λ (k : ℕ). take k t) q ∙ take-length t
+    sym (take-append-drop end out) ∙ ap (λ (b : List ℕ). take end out ++ b) (g.behind ∙ drop-set-lt end xs 0 40 (omega (arith, some_text l)))
+    ∙ ap (λ (k : ℕ). take k out ++ drop end xs) (e ∙ sym q) ∙ ap (λ (b : List ℕ). b ++ drop end xs)
+    (g.front ∙ ap (λ (k : ℕ). take k t) q ∙ take-length t)
+    ∙ ap (λ (k : ℕ). t ++ drop k xs) e
+
+-- and fills bytes that are no more than it
+pub put_fills : (s : List ℕ) (l : Lst) (xs out kept : List ℕ) (w : Walk) → Putting s (text_of l) (set xs 0 40) (length (text_of l)) out kept w
+    → length xs ≡ length (text_of l) → w.depth ≡ 0 → out ≡ text_of l
+put_fills s l xs out kept w g f z =
+    let t = text_of l in
+    put_ends s l (length t) xs out kept w g refl z ∙ ap (λ (b : List ℕ). t ++ b) (drop_all (length t) xs (omega (arith, f))) ∙ append-nil t

@@ -4,7 +4,7 @@ use Rattle.groups.specs.Reading.{list_in}
 use Rattle.writing.specs.Laws.PutLaws.{put_until}
 use Rattle.totext.specs.declared.put.Walk.{Walk}
 use Rattle.totext.specs.Putting.{Putting, Ran}
-use Rattle.totext.specs.Laws.PuttingLaws.{some_text, first_some, first_below, put-begins, put_on, put-from, put-after, put_shut, put_ends}
+use Rattle.totext.specs.Laws.PuttingLaws.{some_text, first_some, first_below, put-begins, put_on, put-from, put-after, put_shut, put_fills}
 use Rattle.totext.specs.Laws.TurnLaws.{shut_turned, shallow}
 use Rattle.totext.proofs.put.put.Goals as goal
 
@@ -84,4 +84,4 @@ shape_of-out c =
 
 pub returns : goal.returns
 returns c =
-    put_ends _ (list_in c.args.groups.now) c.args.out.now _ _ _ c.loop-w.invariant c.requires.out_len (omega arith)
+    put_fills _ (list_in c.args.groups.now) c.args.out.now _ _ _ c.loop-w.invariant c.requires.out_len (omega arith)
