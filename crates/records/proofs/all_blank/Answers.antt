@@ -24,6 +24,8 @@ loop-record-preserved c =
       left = omega (arith, more, none, from.left);
     }
 
+-- Less than a record is left,
+-- and so nothing is.
 pub returns : goal.returns
 returns c =
     let from = c.loop-record.invariant in
