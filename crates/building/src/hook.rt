@@ -17,7 +17,7 @@ pub enum Hook {
 impl Hook {
     pub const HOLDER: Hook = Hook::Next(0);
 
-    // By a cell and whether it is its element: cell 0 is the holder, whatever `inside` says.
+    // To a cell's successor where `inside` is 0, else to its element. Cell 0 is the holder, whatever `inside` is.
     pub fn at(cell: usize, inside: usize) -> Hook
         ensures link { link_of result ≡ link_at cell inside }
         ensures cell { hook_cell result ≡ cell }
