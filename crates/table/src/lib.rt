@@ -210,7 +210,10 @@ pub fn clear(w: &mut [u32], n: usize)
     requires { n ≤ length w.old }
     ensures { w.new ≡ cleared n w.old }
 {
-    w[..n].fill(0);
+    // std's fill puts the last word down apart from the others, for which tab_set_up takes 16 bytes of stack more
+    for word in w[..n].iter_mut() {
+        *word = 0;
+    }
 }
 
 // The number of cells, and that of holders where the form tells it.
