@@ -77,29 +77,46 @@ impl Engine {
         Said::plain(answer)
     }
 
-    // One operation: a script of four words.
     pub fn operate(&mut self, work: &mut [u32; WORK], code: u32, a: u32, b: u32, v: u32) -> Said
         ensures { Says (operated (performing self.old code a b v)) result self.new }
     {
-        let script = [code, a, b, v];
-        let mut results = [u32::from(Kind::Nothing), 0];
-        let table = &mut self.table[..self.used];
-        let r = scripts::run(table, work, &script, &mut results);
-        Said {
-            answer: r.answer,
-            kind: results[0],
-            value: results[1],
-        }
+        operate(&mut self.table[..self.used], work, code, a, b, v)
     }
 
-    // READ's text goes through lent bytes, where it is filled.
     pub fn read(&mut self, work: &mut [u32; WORK], h: u32, text: &[u8], page: &mut [u8]) -> Said
         requires { (length text.now ≤ line_most) × (line_room ≤ length page.old) }
         ensures { Says (took (reading_of self.old h text.now)) result self.new }
     {
-        let n = fill_record(text, page);
-        let table = &mut self.table[..self.used];
-        let r = reading::read(Stored::Text, table, work, h, &page[..n]);
-        Said::plain(r.answer)
+        read_text(&mut self.table[..self.used], work, h, text, page)
     }
+}
+
+// One operation: a script of four words. Like the other calls it takes words of any number, also more than an engine has.
+pub fn operate(table: &mut [u32], work: &mut [u32; WORK], code: u32, a: u32, b: u32, v: u32) -> Said
+    ensures { Says (operated (performing table.old code a b v)) result table.new }
+{
+    let script = [code, a, b, v];
+    let mut results = [u32::from(Kind::Nothing), 0];
+    let r = scripts::run(table, work, &script, &mut results);
+    Said {
+        answer: r.answer,
+        kind: results[0],
+        value: results[1],
+    }
+}
+
+// READ's text goes through lent bytes, where it is filled.
+pub fn read_text(
+    table: &mut [u32],
+    work: &mut [u32; WORK],
+    h: u32,
+    text: &[u8],
+    page: &mut [u8],
+) -> Said
+    requires { (length text.now ≤ line_most) × (line_room ≤ length page.old) }
+    ensures { Says (took (reading_of table.old h text.now)) result table.new }
+{
+    let n = fill_record(text, page);
+    let r = reading::read(Stored::Text, table, work, h, &page[..n]);
+    Said::plain(r.answer)
 }

@@ -18,20 +18,31 @@ pub fn without_fill(text: &[u8]) -> usize
     }
 }
 
+// The bytes of WRITE's text with a line feed, or the answer that refuses it: the number that `writing::write` gives to C.
+pub fn write_text(
+    table: &[u32],
+    work: &mut [u32; WORK],
+    h: u32,
+    room: &mut [u8],
+) -> Result<usize, u32>
+    requires { length room.old ≡ line_room }
+    ensures { Texts table.now h result room.new }
+{
+    let out = &mut room[..Record::TEXT];
+    let r = writing::write(Stored::Text, table, work, h, out);
+    if r.answer != Outcome::DONE {
+        return Err(r.answer);
+    }
+    let n = without_fill(&room[..r.count as usize]);
+    room[n] = b'\n';
+    Ok(n + 1)
+}
+
 impl Engine {
-    // The bytes of WRITE's text with a line feed, or the answer that refuses it: the number that `writing::write` gives to C.
     pub fn write_text(&self, work: &mut [u32; WORK], h: u32, room: &mut [u8]) -> Result<usize, u32>
         requires { length room.old ≡ line_room }
         ensures { Texts self.now h result room.new }
     {
-        let table = &self.table[..self.used];
-        let out = &mut room[..Record::TEXT];
-        let r = writing::write(Stored::Text, table, work, h, out);
-        if r.answer != Outcome::DONE {
-            return Err(r.answer);
-        }
-        let n = without_fill(&room[..r.count as usize]);
-        room[n] = b'\n';
-        Ok(n + 1)
+        write_text(&self.table[..self.used], work, h, room)
     }
 }

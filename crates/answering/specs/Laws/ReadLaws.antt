@@ -1,6 +1,6 @@
 -- What READ leaves: the work space's words do not matter, and what the call says is what READ does.
-use Rattle.std.specs.Prelude.{◌≡◌, refl, Bool, true, false, cond, not, List, ◌++◌, ℕ, eqb, ltb, length, take, replicate}
-use Rattle.std.proofs.Common.{sym, ap, ◌∙◌, take_at}
+use Rattle.std.specs.Prelude.{◌≡◌, refl, Bool, true, false, cond, not, List, ℕ, eqb, ltb, length, replicate}
+use Rattle.std.proofs.Common.{sym, ap, ◌∙◌}
 use Rattle.std.proofs.lemmas.List.{length-replicate}
 use Rattle.answers.specs.Answers.{DONE, UNSOUND, HOLDER, OCCUPIED, NO_ROOM}
 use Rattle.answers.specs.declared.Outcome.{Outcome}
@@ -57,15 +57,15 @@ any_words ts ws us xs h l =
     go true false true false false true true = record { answer = refl; table = refl }
     go true false true false false true false = record { answer = refl; table = refl }
 
--- READ of a text on the words in use
-pub reads : (us ws vs front rest xs page : List ℕ) (h k : ℕ) (o : Outcome) → length front ≡ k → length ws ≡ work_most → page ≡ filled xs
+-- READ of a text on words
+pub reads : (us ws vs front xs page : List ℕ) (h : ℕ) (o : Outcome) → length ws ≡ work_most → page ≡ filled xs
     → Reads o front vs (read_in Text us ws h page)
-    → Says (took (reading_of us h xs)) (plain o.answer) (take k (front ++ rest))
-reads us ws vs front rest xs page h k o l w t s =
+    → Says (took (reading_of us h xs)) (plain o.answer) front
+reads us ws vs front xs page h o w t s =
     let q = any_words us ws (replicate work_most 0) (filled xs) h (w ∙ sym (length-replicate {A = ℕ} work_most 0)) in
     let r : read_in Text us ws h page ≡ read_in Text us ws h (filled xs) = ap (read_in Text us ws h) t in
     record {
-      words = take_at front rest k l ∙ s.table ∙ ap (λ (x : Read). x.table) r ∙ q.table;
+      words = s.table ∙ ap (λ (x : Read). x.table) r ∙ q.table;
       answer = ap (λ (x : Outcome). x.answer) s.outcome ∙ ap (λ (x : Read). x.answer) r ∙ q.answer;
       kind = refl;
       value = refl;

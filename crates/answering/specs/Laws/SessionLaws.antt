@@ -98,19 +98,23 @@ any_work ts ws us ss rs l = rw l (go (eqb (entry_fault work_words Four ts (lengt
     go true false c = record { answer = refl; table = refl; results = refl }
     go false b c = record { answer = refl; table = refl; results = refl }
 
--- an operation on the words in use
-pub operates : (us ws front rest rs : List ℕ) (k c a b v answer : ℕ) → length front ≡ k → length ws ≡ work_most
+-- an operation on words
+pub operates : (us ws front rs : List ℕ) (c a b v answer : ℕ) → length ws ≡ work_most
     → Alike (record { answer = answer; count = 0; table = front; work = ws; results = rs }) (ran us ws (c ∷ a ∷ b ∷ v ∷ []) (nothing_kind ∷ 0 ∷ []))
-    → Says (operated (performing us c a b v)) (record { answer = answer; kind = get_or rs 0 0; value = get_or rs 1 0 }) (take k (front ++ rest))
-operates us ws front rest rs k c a b v answer l m g =
+    → Says (operated (performing us c a b v)) (record { answer = answer; kind = get_or rs 0 0; value = get_or rs 1 0 }) front
+operates us ws front rs c a b v answer m g =
     let n : length ws ≡ length {A = ℕ} (replicate work_most 0) = m ∙ sym (length-replicate {A = ℕ} work_most 0) in
     let w = any_work us ws (replicate work_most 0) (c ∷ a ∷ b ∷ v ∷ []) (nothing_kind ∷ 0 ∷ []) n in
     record {
-      words = take_at front rest k l ∙ g.table ∙ w.table;
+      words = g.table ∙ w.table;
       answer = g.answer ∙ w.answer;
       kind = ap (λ (x : List ℕ). get_or x 0 0) (g.results ∙ w.results);
       value = ap (λ (x : List ℕ). get_or x 1 0) (g.results ∙ w.results);
     }
+
+-- a call on the words in use, which are the front of the engine's
+pub in_use : (t : Told) (r : Said) (front rest : List ℕ) (k : ℕ) → Says t r front → length front ≡ k → Says t r (take k (front ++ rest))
+in_use t r front rest k s l = rw (take_at front rest k l) s
 
 -- what a call said, with the free cells told
 pub tells : (us out : List ℕ) (count : ℕ) (r : Said) → Prints (reply r.answer r.kind r.value (free_cells us)) count out
