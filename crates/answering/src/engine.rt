@@ -91,7 +91,7 @@ impl Engine {
     }
 }
 
-// One operation: a script of four words. Like the other calls it takes words of any number, also more than an engine has.
+// One operation: a script of four words. It, READ and WRITE take words of any number, also more than an engine has.
 pub fn operate(table: &mut [u32], work: &mut [u32; WORK], code: u32, a: u32, b: u32, v: u32) -> Said
     ensures { Says (operated (performing table.old code a b v)) result table.new }
 {
