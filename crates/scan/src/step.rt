@@ -85,12 +85,12 @@ fn open(depth: u32, elements: u32, at: usize) -> Result<Place, Refusal>
     })
 }
 
-// Eleven digits are below 2^32 where the first is at most 3.
+// Eleven digits are below 2^32 where the first is at most 3. One comparison: with one for each number of digits, joined by
+// "or", atoms of two to ten digits took a third longer to check.
 fn too_long(digits: usize, first: u8) -> bool
     ensures { result ≡ too_long_atom digits first }
 {
-    // fewer digits come first, told by one comparison: else atoms of two to eight digits take a third longer to check
-    digits >= Digits::MOST && (digits > Digits::MOST || first > b'3')
+    digits > Digits::MOST - usize::from(first > b'3')
 }
 
 // An atom of any number of digits, and what follows it.
