@@ -4,7 +4,9 @@ ghost use Rattle.pool.specs.Pool.{kind_of, elem_of, count_of, next_of, holder};
 ghost use Rattle.pool.specs.Setters.{cell, put_cell, put_count, put_next, put_free, put_holder};
 ghost use Rattle.table.specs.View.{greatest_count, holder_count, Table, IsCell, Shows};
 ghost use Rattle.cells.specs.Lent.{lent, on, Sized};
+ghost use Rattle.cells.specs.Views.{pool_of};
 
+use crate::seen::Seen;
 use std::marker::Model;
 use table::Shape;
 
@@ -51,6 +53,15 @@ impl<'a> Pool<'a> {
         ensures shows { Shows self.now.shape result.1.now self.now.pool }
     {
         (self.shape, self.words)
+    }
+
+    // The pool to be read alone, for who takes no more than that.
+    #[inline(always)]
+    pub fn seen(&self) -> Seen<'_>
+        ensures shape { result.shape ≡ self.now.shape }
+        ensures pool { pool_of result ≡ self.now.pool }
+    {
+        Seen::new(self.shape, self.words)
     }
 
     // Says how large the pool is; does nothing.

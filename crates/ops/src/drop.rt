@@ -12,7 +12,7 @@ pub fn adv(p: &mut Pool, a: usize, b: usize) -> Result<Told, Refusal>
     requires { OnTwo p.old a b }
     ensures { (v : ℕ) → Gives p.old p.new result (operation ADV a b v) }
 {
-    tests::parting(p, a, b)?;
+    tests::parting(p.seen(), a, b)?;
     let e = heads::first(p, a);
     erasing::adv(p, a, b);
     Ok(e)

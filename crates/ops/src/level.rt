@@ -23,7 +23,7 @@ pub fn cinv(p: &mut Pool, a: usize, b: usize) -> Result<Told, Refusal>
     requires { OnTwo p.old a b }
     ensures { (v : ℕ) → Gives p.old p.new result (operation CINV a b v) }
 {
-    if tests::is_occupied(p, b) {
+    if tests::is_occupied(p.seen(), b) {
         return Err(Refusal::Occupied);
     }
     if !levels::walk::fits(p, a) {
@@ -37,7 +37,7 @@ pub fn conc(p: &mut Pool, a: usize, b: usize) -> Result<Told, Refusal>
     requires { OnTwo p.old a b }
     ensures { (v : ℕ) → Gives p.old p.new result (operation CONC a b v) }
 {
-    if tests::is_null(p, b) {
+    if tests::is_null(p.seen(), b) {
         return Ok(Told::Nothing);
     }
     let Some(last) = levels::walk::end_of(p, a) else {

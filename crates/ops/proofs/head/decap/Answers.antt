@@ -18,29 +18,29 @@ own c = rw (← c.holder_of-x.ensures.0, ← c.count_of.ensures.0) c.if-count_of
 
 pub returns-in_err-parting : goal.returns-in_err-parting
 returns-in_err-parting c v =
-    refuses_with _ c.from_residual.ensures.1 (parting-refused (two refl c.requires refl) refl refl _ c.in_err-parting.ensures)
+    refuses_with _ c.from_residual.ensures.1 (parting-refused (two refl c.requires refl) refl refl _ (rw c.seen.ensures.pool at c.in_err-parting.ensures))
 
 pub count_of-requires : goal.count_of-requires
 count_of-requires c =
-    rw c.holder_of-x.ensures.0 (holder-head _ c.requires.sized c.requires.sound _ (parts (sym c.in_ok-parting.ensures)).filled).cell
+    rw c.holder_of-x.ensures.0 (holder-head _ c.requires.sized c.requires.sound _ (parts (sym (rw c.seen.ensures.pool at c.in_ok-parting.ensures))).filled).cell
 
 pub returns-then-count_of-gt1 : goal.returns-then-count_of-gt1
 returns-then-count_of-gt1 c v =
     let p = c.args.p.now.pool in
     let n : 1 < count_of p.cells (holder p c.args.a) = rw (← c.holder_of-x.ensures.0, ← c.count_of.ensures.0) c.if-count_of-gt1.true in
-    refuses (parting-shared (two refl c.requires refl) refl refl (parts (sym c.in_ok-parting.ensures)) (rw (lt-ltb 1 _ n) refl))
+    refuses (parting-shared (two refl c.requires refl) refl refl (parts (sym (rw c.seen.ensures.pool at c.in_ok-parting.ensures))) (rw (lt-ltb 1 _ n) refl))
 
 pub first-e-requires-clause-a_nonzero : goal.first-e-requires-clause-a_nonzero
-first-e-requires-clause-a_nonzero c = (parts (sym c.in_ok-parting.ensures)).filled
+first-e-requires-clause-a_nonzero c = (parts (sym (rw c.seen.ensures.pool at c.in_ok-parting.ensures))).filled
 
 pub decap-requires-clause-b_value : goal.decap-requires-clause-b_value
 decap-requires-clause-b_value c =
-    let q = parts (sym c.in_ok-parting.ensures) in
+    let q = parts (sym (rw c.seen.ensures.pool at c.in_ok-parting.ensures)) in
     (q.vacant, own_head _ _ c.requires.sound q.filled (own (goal.at.decap-requires-clause-b_value c).Else-count_of-gt1))
 
 pub returns : goal.returns
 unfolding effect
 returns c v =
     let own = own (goal.at.returns c).Else-count_of-gt1 in
-    does (parting-done (two refl c.requires refl) refl refl (parts (sym c.in_ok-parting.ensures)) (rw (le-ltb 1 _ own) refl) refl) c.decap.ensures
+    does (parting-done (two refl c.requires refl) refl refl (parts (sym (rw c.seen.ensures.pool at c.in_ok-parting.ensures))) (rw (le-ltb 1 _ own) refl) refl) c.decap.ensures
     (first_said c.first-e.ensures)

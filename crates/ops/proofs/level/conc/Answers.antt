@@ -12,14 +12,14 @@ use Rattle.ops.proofs.level.conc.Goals as goal
 pub returns-then-is_null : goal.returns-then-is_null
 unfolding effect
 returns-then-is_null c v =
-    let e = sym c.if-is_null.ensures in
+    let e = sym (rw c.seen.ensures.pool at c.if-is_null.ensures) in
     does (needs_none (two refl c.requires refl) refl refl (rw e refl) refl) (ap (λ (q : Pool). on (λ _. q) c.args.p.now) (join_none _ c.args.a _ (eqb-true _ 0 e))) refl
 
 pub returns-in_default : goal.returns-in_default
 returns-in_default c v =
-    refuses (says-shared (two refl c.requires refl) refl refl (rw (sym c.if-is_null.ensures) (sym c.in_default.ensures.0)))
+    refuses (says-shared (two refl c.requires refl) refl refl (rw (sym (rw c.seen.ensures.pool at c.if-is_null.ensures)) (sym c.in_default.ensures.0)))
 
 pub returns : goal.returns
 unfolding effect
 returns c v =
-    does (needs_none (two refl c.requires refl) refl refl (rw (sym c.if-is_null.ensures) (sym c.in-Some.ensures.0)) refl) c.conc.ensures refl
+    does (needs_none (two refl c.requires refl) refl refl (rw (sym (rw c.seen.ensures.pool at c.if-is_null.ensures)) (sym c.in-Some.ensures.0)) refl) c.conc.ensures refl
