@@ -2,6 +2,7 @@
 // takes none; a copy goes from function to function as shape and words did.
 ghost use Rattle.std.specs.Prelude.{◌≡◌, ◌<◌, ◌^◌};
 ghost use Rattle.pool.specs.Pool.{kind_of, elem_of, count_of, next_of, holder};
+ghost use Rattle.pool.specs.Operations.{item};
 ghost use Rattle.table.specs.View.{holder_count, view, Table, IsCell};
 
 use table::Shape;
@@ -60,6 +61,19 @@ impl<'a> Seen<'a> {
         ensures { (result ≡ next_of (view self.entry.shape self.entry.words.now).cells c) × (result < 2 ^ 32) }
     {
         table::next_of(self.shape, self.words, c)
+    }
+
+    // The element of cell x if it is a list, else null.
+    #[inline(always)]
+    pub fn item_of(self, x: usize) -> usize
+        requires { IsCell self.shape x }
+        ensures { result ≡ item (view self.entry.shape self.entry.words.now).cells x }
+    {
+        if self.kind_of(x) == 0 {
+            0
+        } else {
+            self.elem_of(x) as usize
+        }
     }
 
     #[inline(always)]
