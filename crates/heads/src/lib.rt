@@ -2,15 +2,18 @@
 
 #![tactic(auto)]
 
-ghost use Rattle.std.specs.Prelude.{◌≡◌, ◌≢◌};
-ghost use Rattle.pool.specs.Pool.{count_of, holder};
+ghost use Rattle.std.specs.Prelude.{◌≡◌, ◌≢◌, ◌<◌};
+ghost use Rattle.pool.specs.Pool.{count_of, holder, Sound};
 ghost use Rattle.pool.specs.Operations.{pfa, pfl, decap, borrow};
 ghost use Rattle.cells.specs.Asked.{OnOne, OnTwo};
 ghost use Rattle.cells.specs.Lent.{on};
+ghost use Rattle.cells.specs.Views.{pool_of};
 ghost use Rattle.heads.specs.FirstTold.{FirstTold};
+ghost use Rattle.table.specs.View.{holder_count};
 
 use answers::Told;
 use cells::lent::Pool;
+use cells::seen::Seen;
 
 // PFA: atom v before the list of a.
 pub fn pfa(p: &mut Pool, a: usize, v: u32)
@@ -63,14 +66,15 @@ pub fn borrow(p: &mut Pool, a: usize, b: usize)
 }
 
 // FIRST: the first element, an atom or a list.
-pub fn first(p: &Pool, a: usize) -> Told
-    requires asked { OnOne p.now a }
-    requires a_nonzero { holder p.now.pool a ≢ 0 }
-    ensures { FirstTold p.now.pool a result }
+pub fn first(t: Seen, a: usize) -> Told
+    requires a_bound { a < holder_count t.shape }
+    requires sound { Sound (pool_of t) }
+    requires a_nonzero { holder (pool_of t) a ≢ 0 }
+    ensures { FirstTold (pool_of t.entry) a result }
 {
-    let x = p.holder_of(a);
-    if p.kind_of(x) != 0 {
+    let x = t.holder_of(a);
+    if t.kind_of(x) != 0 {
         return Told::List;
     }
-    Told::Atom(p.elem_of(x))
+    Told::Atom(t.elem_of(x))
 }

@@ -13,7 +13,7 @@ pub fn adv(p: &mut Pool, a: usize, b: usize) -> Result<Told, Refusal>
     ensures { (v : ℕ) → Gives p.old p.new result (operation ADV a b v) }
 {
     tests::parting(p.seen(), a, b)?;
-    let e = heads::first(p, a);
+    let e = heads::first(p.seen(), a);
     erasing::adv(p, a, b);
     Ok(e)
 }

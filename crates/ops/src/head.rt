@@ -39,7 +39,7 @@ pub fn decap(p: &mut Pool, a: usize, b: usize) -> Result<Told, Refusal>
     if p.count_of(x) > 1 {
         return Err(Refusal::Shared);
     }
-    let e = heads::first(p, a);
+    let e = heads::first(p.seen(), a);
     heads::decap(p, a, b);
     Ok(e)
 }
@@ -62,5 +62,5 @@ pub fn first(p: &Pool, a: usize) -> Result<Told, Refusal>
     if tests::is_null(p.seen(), a) {
         return Err(Refusal::Null);
     }
-    Ok(heads::first(p, a))
+    Ok(heads::first(p.seen(), a))
 }

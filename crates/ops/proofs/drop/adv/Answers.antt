@@ -11,7 +11,7 @@ returns-in_err-parting c v =
     refuses_with _ c.from_residual.ensures.1 (parting-refused (two refl c.requires refl) refl refl _ (rw c.seen.ensures.pool at c.in_err-parting.ensures))
 
 pub first-e-requires-clause-a_nonzero : goal.first-e-requires-clause-a_nonzero
-first-e-requires-clause-a_nonzero c = (parts (sym (rw c.seen.ensures.pool at c.in_ok-parting.ensures))).filled
+first-e-requires-clause-a_nonzero c = rw c.seen-2.ensures.pool (parts (sym (rw c.seen.ensures.pool at c.in_ok-parting.ensures))).filled
 
 pub adv-requires-clause-b_value : goal.adv-requires-clause-b_value
 adv-requires-clause-b_value c =
@@ -21,4 +21,4 @@ adv-requires-clause-b_value c =
 pub returns : goal.returns
 unfolding effect
 returns c v =
-    does (parting-done (two refl c.requires refl) refl refl (parts (sym (rw c.seen.ensures.pool at c.in_ok-parting.ensures))) refl refl) c.adv.ensures (first_said c.first-e.ensures)
+    does (parting-done (two refl c.requires refl) refl refl (parts (sym (rw c.seen.ensures.pool at c.in_ok-parting.ensures))) refl refl) c.adv.ensures (first_said (rw c.seen-2.ensures.pool at c.first-e.ensures))

@@ -31,7 +31,7 @@ returns-then-count_of-gt1 c v =
     refuses (parting-shared (two refl c.requires refl) refl refl (parts (sym (rw c.seen.ensures.pool at c.in_ok-parting.ensures))) (rw (lt-ltb 1 _ n) refl))
 
 pub first-e-requires-clause-a_nonzero : goal.first-e-requires-clause-a_nonzero
-first-e-requires-clause-a_nonzero c = (parts (sym (rw c.seen.ensures.pool at c.in_ok-parting.ensures))).filled
+first-e-requires-clause-a_nonzero c = rw c.seen-2.ensures.pool (parts (sym (rw c.seen.ensures.pool at c.in_ok-parting.ensures))).filled
 
 pub decap-requires-clause-b_value : goal.decap-requires-clause-b_value
 decap-requires-clause-b_value c =
@@ -43,4 +43,4 @@ unfolding effect
 returns c v =
     let own = own (goal.at.returns c).Else-count_of-gt1 in
     does (parting-done (two refl c.requires refl) refl refl (parts (sym (rw c.seen.ensures.pool at c.in_ok-parting.ensures))) (rw (le-ltb 1 _ own) refl) refl) c.decap.ensures
-    (first_said c.first-e.ensures)
+    (first_said (rw c.seen-2.ensures.pool at c.first-e.ensures))

@@ -12,4 +12,4 @@ returns-then-is_null c b v = refuses (says-null (one refl c.requires refl) (cc))
 pub returns : goal.returns
 unfolding effect
 returns c b v =
-    does (needs_none (one refl c.requires refl) (cc) refl refl refl) refl (first_said c.first.ensures)
+    does (needs_none (one refl c.requires refl) (cc) refl refl refl) refl (first_said (rw c.seen-2.ensures.pool at c.first.ensures))
