@@ -12,7 +12,7 @@ pub fn inv(p: &mut Pool, a: usize) -> Result<Told, Refusal>
     requires { OnOne p.old a }
     ensures { (b v : ℕ) → Gives p.old p.new result (operation INV a b v) }
 {
-    if levels::walk::any_shared(p, a) {
+    if levels::walk::any_shared(p.seen(), a) {
         return Err(Refusal::Shared);
     }
     levels::turn::inv(p, a);
@@ -26,7 +26,7 @@ pub fn cinv(p: &mut Pool, a: usize, b: usize) -> Result<Told, Refusal>
     if tests::is_occupied(p.seen(), b) {
         return Err(Refusal::Occupied);
     }
-    if !levels::walk::fits(p, a) {
+    if !levels::walk::fits(p.seen(), a) {
         return Err(Refusal::NoRoom);
     }
     levels::copy::cinv(p, a, b);
@@ -40,7 +40,7 @@ pub fn conc(p: &mut Pool, a: usize, b: usize) -> Result<Told, Refusal>
     if tests::is_null(p.seen(), b) {
         return Ok(Told::Nothing);
     }
-    let Some(last) = levels::walk::end_of(p, a) else {
+    let Some(last) = levels::walk::end_of(p.seen(), a) else {
         return Err(Refusal::Shared);
     };
     levels::join::conc(p, a, b, last);
@@ -51,6 +51,6 @@ pub fn length(p: &Pool, a: usize) -> Result<Told, Refusal>
     requires { OnOne p.now a }
     ensures { (b v : ℕ) → Gives p.now p.now result (operation LENGTH a b v) }
 {
-    let n = levels::walk::length(p, a);
+    let n = levels::walk::length(p.seen(), a);
     Ok(Told::Number(n as u32))
 }

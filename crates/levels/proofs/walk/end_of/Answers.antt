@@ -1,4 +1,5 @@
 use Rattle.std.proofs.Common.{sym, ◌∙◌, arith}
+use Rattle.cells.specs.Views.{pool_of}
 use Rattle.table.specs.View.{IsCell}
 use Rattle.pool.specs.Laws.Level.{Onward, onward, none_left}
 use Rattle.levels.specs.Laws.Ending.{ending, ending-on}
@@ -7,11 +8,11 @@ use Rattle.levels.proofs.walk.end_of.Goals as goal
 
 -- what a turn knows
 here : (c : In-loop-x) →
-    Onward c.args.p.now.pool.cells c.loop-x.x
+    Onward (pool_of c.args.t).cells c.loop-x.x
 here c = onward _ _ c.loop-x-test.true c.loop-x.invariant.left
 
 cell : (c : In-loop-x) →
-    IsCell c.args.p.now.shape c.loop-x.x
+    IsCell c.args.t.shape c.loop-x.x
 cell c = record { low = (here c).inside.0; high = omega (arith, (here c).inside.1) }
 
 pub loop-x-init : goal.loop-x-init
@@ -38,4 +39,4 @@ loop-x-preserved c =
 
 pub returns : goal.returns
 returns c =
-    (sym (none_left c.args.p.now.pool.cells _ c.loop-x-test.false).1 ∙ c.loop-x.invariant.shared, c.loop-x.invariant.reached c.loop-x-test.false)
+    (sym (none_left (pool_of c.args.t).cells _ c.loop-x-test.false).1 ∙ c.loop-x.invariant.shared, c.loop-x.invariant.reached c.loop-x-test.false)

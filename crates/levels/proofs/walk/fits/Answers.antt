@@ -1,5 +1,6 @@
 use Rattle.std.specs.Prelude.{ℕ}
 use Rattle.std.proofs.Common.{arith}
+use Rattle.cells.specs.Views.{pool_of}
 use Rattle.table.specs.View.{IsCell}
 use Rattle.pool.specs.Pool.{InPool}
 use Rattle.levels.specs.Laws.Beside.{beside, Pair, pair, enough, too_few}
@@ -8,12 +9,12 @@ use Rattle.levels.proofs.walk.fits.Goals as goal
 
 -- what a turn knows
 both : (c : Else-f-eq0) →
-    Pair c.args.p.now.pool c.args.a c.loop-x.x c.loop-x.f
+    Pair (pool_of c.args.t) c.args.a c.loop-x.x c.loop-x.f
 both c = pair _ _ _ _ c.loop-x-test.true c.if-f-eq0.false c.loop-x.invariant
 
 cell : (c : Else-f-eq0) (x : ℕ) →
-    InPool c.args.p.now.pool.cells x
-    → IsCell c.args.p.now.shape x
+    InPool (pool_of c.args.t).cells x
+    → IsCell c.args.t.shape x
 cell c x i = record { low = i.0; high = omega (arith, i.1) }
 
 pub loop-x-init : goal.loop-x-init

@@ -17,9 +17,9 @@ returns-then-is_null c v =
 
 pub returns-in_default : goal.returns-in_default
 returns-in_default c v =
-    refuses (says-shared (two refl c.requires refl) refl refl (rw (sym (rw c.seen.ensures.pool at c.if-is_null.ensures)) (sym c.in_default.ensures.0)))
+    refuses (says-shared (two refl c.requires refl) refl refl (rw (sym (rw c.seen.ensures.pool at c.if-is_null.ensures)) (sym (rw c.seen-2.ensures.pool at c.in_default.ensures.0))))
 
 pub returns : goal.returns
 unfolding effect
 returns c v =
-    does (needs_none (two refl c.requires refl) refl refl (rw (sym (rw c.seen.ensures.pool at c.if-is_null.ensures)) (sym c.in-Some.ensures.0)) refl) c.conc.ensures refl
+    does (needs_none (two refl c.requires refl) refl refl (rw (sym (rw c.seen.ensures.pool at c.if-is_null.ensures)) (sym (rw c.seen-2.ensures.pool at c.in-Some.ensures.0))) refl) c.conc.ensures refl

@@ -9,4 +9,4 @@ use Rattle.ops.proofs.level.length.Goals as goal
 pub returns : goal.returns
 unfolding effect
 returns c b v =
-    does (needs_none (one refl c.requires refl) refl refl refl refl) refl (ap (λ (n : ℕ). Ok (2, n)) c.length-n.ensures.0)
+    does (needs_none (one refl c.requires refl) refl refl refl refl) refl (ap (λ (n : ℕ). Ok (2, n)) (rw c.seen.ensures.pool at c.length-n.ensures.0))
