@@ -71,6 +71,14 @@ run-part (b ∷ a) t n =
     (λ d f. rw d)
     n
 
+-- no more digits than bytes
+pub run_most : (l : List ℕ) → digit_run l ≤ length l
+run_most [] = omega arith
+run_most (b ∷ l) =
+    by_case (is_digit_byte b) (λ (n : ℕ). n ≤ suc (length l)) {x = suc (digit_run l)} {y = 0}
+    (λ d. omega (arith, run_most l))
+    (λ d. omega arith)
+
 -- a run goes up to the first byte that is no digit
 pub run_first : (l : List ℕ) (r : Option ℕ) → r ≡ position (λ b. not (is_digit_byte b)) l → unwrap_or r (length l) ≡ digit_run l
 run_first l r e =

@@ -9,8 +9,8 @@ use lib.Bits.{bit_and, bit_xor, block_half, block_odd, and_block, xor_block, and
 use lib.Count.{count_trailing_zeros, under, trailing_of_zero}
 use Rattle.text.specs.ListText.{is_digit_byte}
 use Rattle.text.specs.Laws.TextLaws.{by_case, no_yes}
-use Rattle.scan.specs.Runs.{digit_run}
-use Rattle.scan.proofs.RunLaws.{digit_bounds, bounds_digit, run-all, run-part}
+use Rattle.scan.specs.Runs.{digit_run, left}
+use Rattle.scan.proofs.RunLaws.{digit_bounds, bounds_digit, run_most, run-all, run-part}
 
 abbrev Bytes : List ℕ → Type 0
 Bytes [] = Unit {0}
@@ -137,10 +137,6 @@ small zero l f = tt
 small (suc n) [] f = tt
 small (suc n) (b ∷ l) f = (f 0, small n l (λ k. f (suc k)))
 
--- the bits of eight bytes that are no digit's
-abbrev pub left : ℕ → ℕ
-left w = bit_xor (bit_and w 17940362863843014904) 3472328296227680304
-
 -- the eight bytes at a place
 module _ (s : List ℕ) (i : ℕ) (bs : List ℕ) (here : IsFirstChunk (take (length s - i) (drop i s)) bs 8) (fits : (k : ℕ) → Fits w8 (slice_index s k)) where
   all : take (length s - i) (drop i s) ≡ drop i s
@@ -182,3 +178,6 @@ module _ (s : List ℕ) (i : ℕ) (bs : List ℕ) (here : IsFirstChunk (take (le
       let none : digit_run bs ≡ length bs → left (from_le_bytes w64 bs) ≡ 0
       = λ q. ap left word_is ∙ ap (λ (k : ℕ). strange k (word bs)) (sym size) ∙ full-none bs bytes q in
       ap digit_run split ∙ run-part bs (drop (i + 8) s) (λ q. n (none q)) ∙ sym told
+
+  pub eight_most : count_trailing_zeros 64 (left (from_le_bytes w64 bs)) / 8 ≤ 8
+  eight_most = omega (arith, told, run_most bs, size)

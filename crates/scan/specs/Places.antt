@@ -1,6 +1,6 @@
 -- Places in a text, of the code and of the automaton: what a place says of the rest of the text, and what a step from
 -- it must say.
-use Rattle.std.specs.Prelude.{ℕ, zero, suc, ◌+◌, ◌-◌, ◌<◌, ◌≤◌, ◌≡◌, List, [], ◌∷◌, ◌++◌, Bool, true, false, cond, length, drop, eqb, leb, ltb, Result, Ok, Err}
+use Rattle.std.specs.Prelude.{ℕ, zero, suc, ◌+◌, ◌-◌, ◌<◌, ◌≤◌, ◌≡◌, List, [], ◌∷◌, ◌++◌, Bool, true, false, cond, length, drop, get_or, eqb, leb, ltb, Option, MatchOption, Result, Ok, Err}
 use Rattle.answers.specs.Refusals.{refusal_no}
 use Rattle.answers.specs.declared.refusal.Refusal.{Refusal}
 use Rattle.answers.specs.declared.refusal.Refusal.TheVariants.{Deep}
@@ -9,7 +9,7 @@ use Rattle.text.specs.Text as text
 use Rattle.text.specs.Text.{State, place, mark, settle, run, answer, refusal}
 use Rattle.text.specs.Marks as marks
 use Rattle.text.specs.Marks.{Mark, shut, value, trace, beginnings}
-use Rattle.scan.specs.Runs.{numeral}
+use Rattle.scan.specs.Runs.{digit_run, numeral}
 use Rattle.scan.specs.declared.step.Place.{Place}
 
 abbrev pub placed : ℕ → ℕ → ℕ → Bool → Place
@@ -30,6 +30,13 @@ open_of d e i = cond (leb levels d) (Err Deep) (Ok (placed (i + 1) (d + 1) (e + 
 -- n digits of which b is the first are no atom
 abbrev pub too_long_atom : ℕ → ℕ → Bool
 too_long_atom n b = cond (ltb n digits_most) false (cond (ltb digits_most n) true (ltb 51 b))
+
+-- where the atom at i ends, or that its digits are too many
+abbrev pub AtomEnd : List ℕ → ℕ → Option ℕ → Type 0
+AtomEnd s i u =
+    let end = i + 1 + digit_run (drop (i + 1) s) in
+    let long = too_long_atom (end - i) (get_or s i 0) in
+    MatchOption u (long ≡ true) (λ e. (e ≡ end) × (long ≡ false))
 
 abbrev pub phase_of : Bool → text.Phase
 phase_of true = text.after_open

@@ -1,7 +1,8 @@
 // Octal digits: one, and a run of them, eight bytes at a time.
 ghost use Rattle.std.specs.Prelude.{◌≡◌, ◌+◌, ◌≤◌, ◌<◌, length, drop};
+ghost use Rattle.std.specs.Int.{from_le_bytes, w64};
 ghost use Rattle.text.specs.ListText.{is_digit_byte};
-ghost use Rattle.scan.specs.Runs.{digit_run};
+ghost use Rattle.scan.specs.Runs.{digit_run, left, Near};
 
 pub fn is_octal(b: u8) -> bool
     ensures { result ≡ is_digit_byte b }
@@ -21,18 +22,38 @@ fn run_by_one(text: &[u8], from: usize) -> usize
         .unwrap_or(rest.len())
 }
 
-// Where the digits that begin at `from` end. A byte other than a digit differs from 0x30 above its three low bits.
+// The bits of eight bytes that are no digit's. A byte other than a digit differs from 0x30 above its three low bits.
+fn others(bytes: &[u8; 8]) -> u64
+    ensures { result ≡ left (from_le_bytes w64 bytes.now) }
+{
+    (u64::from_le_bytes(*bytes) & 0xf8f8f8f8f8f8f8f8) ^ 0x3030303030303030
+}
+
+// Where the digits that begin at `from` end, but not where eight stand there: more may follow.
+pub fn near_end(text: &[u8], from: usize) -> Option<usize>
+    requires { from ≤ length text.now }
+    ensures { Near text.now from result }
+{
+    let Some(bytes) = text[from..].first_chunk() else {
+        return Some(run_by_one(text, from));
+    };
+    let others = others(bytes);
+    if others == 0 {
+        return None;
+    }
+    Some(from + (others.trailing_zeros() / 8) as usize)
+}
+
+// Where the digits that begin at `from` end, however many they are.
 pub fn run_end(text: &[u8], from: usize) -> usize
     requires { from ≤ length text.now }
     ensures { result ≡ from + digit_run (drop from text.now) }
 {
     let mut i = from;
-    while let Some(bytes) = text[i..].first_chunk() {
-        let others = (u64::from_le_bytes(*bytes) & 0xf8f8f8f8f8f8f8f8) ^ 0x3030303030303030;
-        if others != 0 {
-            return i + (others.trailing_zeros() / 8) as usize;
+    loop {
+        if let Some(end) = near_end(text, i) {
+            return end;
         }
         i += 8;
     }
-    run_by_one(text, i)
 }

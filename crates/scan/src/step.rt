@@ -1,9 +1,9 @@
 // One reading step: from a place where an element is to begin to the next such place, by a mark or with a fault.
 // A step takes along what follows its element: ",", or every ")" up to the "," behind them or to the end of the list.
-ghost use Rattle.std.specs.Prelude.{◌≡◌, true, false, ◌≤◌, ◌<◌, get_or};
+ghost use Rattle.std.specs.Prelude.{◌≡◌, true, false, ◌≤◌, ◌<◌, get_or, length};
 ghost use Rattle.text.specs.Limits.{text_most};
 ghost use Rattle.text.specs.ListText.{is_digit_byte};
-ghost use Rattle.scan.specs.Places.{placed, open_of, too_long_atom, Inside, Closing, Closed, Taken, opened};
+ghost use Rattle.scan.specs.Places.{placed, open_of, too_long_atom, AtomEnd, Inside, Closing, Closed, Taken, opened};
 
 use crate::limits::{Digits, Level};
 use crate::octals;
@@ -85,12 +85,27 @@ fn open(depth: u32, elements: u32, at: usize) -> Result<Place, Refusal>
     })
 }
 
-// Eleven digits are below 2^32 where the first is at most 3. One comparison: with one for each number of digits, joined by
-// "or", atoms of two to ten digits took a third longer to check.
+// Eleven digits are below 2^32 where the first is at most 3.
 fn too_long(digits: usize, first: u8) -> bool
     ensures { result ≡ too_long_atom digits first }
 {
     digits > Digits::MOST - usize::from(first > b'3')
+}
+
+// Where the digits of an atom end, unless they are too many, as sixteen behind the first are. Nearly every atom ends within
+// eight, and is not too long.
+fn atom_end(text: &[u8], at: usize) -> Option<usize>
+    requires { at < length text.now }
+    ensures { AtomEnd text.now at result }
+{
+    if let Some(end) = octals::near_end(text, at + 1) {
+        return Some(end);
+    }
+    let end = octals::near_end(text, at + 9)?;
+    if too_long(end - at, text[at]) {
+        return None;
+    }
+    Some(end)
 }
 
 // An atom of any number of digits, and what follows it.
@@ -99,11 +114,9 @@ fn digits(text: &[u8], p: Place) -> Result<Place, Refusal>
     requires at_value { is_digit_byte (get_or text.now p.at 0) ≡ true }
     ensures { Taken text.now p result }
 {
-    let at = p.at;
-    let end = octals::run_end(text, at + 1);
-    if too_long(end - at, text[at]) {
+    let Some(end) = atom_end(text, p.at) else {
         return Err(Refusal::Atom);
-    }
+    };
     if end >= text.len() {
         return Err(Refusal::NotAList);
     }
@@ -115,17 +128,15 @@ fn digits(text: &[u8], p: Place) -> Result<Place, Refusal>
 }
 
 // An atom, and what follows it. One digit and a "," are looked for first: they are the quickest to take. The end of the
-// text is a test of its own: with `get` in its place a text of one digit takes 2.3 times as long.
+// text is a test of its own: with `get` in its place a text of one digit takes 2.3 times as long. Where it is met, `digits`
+// says so: with a return here a digit takes an instruction more.
 fn atom(text: &[u8], p: Place) -> Result<Place, Refusal>
     requires inside { Inside text.now p }
     requires at_value { is_digit_byte (get_or text.now p.at 0) ≡ true }
     ensures { Taken text.now p result }
 {
     let second = p.at + 1;
-    if second >= text.len() {
-        return Err(Refusal::NotAList);
-    }
-    if text[second] == b',' {
+    if second < text.len() && text[second] == b',' {
         return Ok(Place::behind(second + 1, p.depth, p.elements + 1));
     }
     digits(text, p)

@@ -47,13 +47,16 @@ fn put_out(text: &[u8], taken: u32, out: &mut [u8]) -> Result<Passed, Refusal>
     })
 }
 
-// OUTPUT comes after every fault of the text, and the output is touched only where the list is put out.
+// OUTPUT comes after every fault of the text, and the output is touched only where the list is put out. With `?` at the scan
+// the list's extent would be kept over the pass, in 16 bytes of stack.
 fn move_list(text: &[u8], out: &mut [u8]) -> Result<Passed, Refusal>
     ensures { Moves (moved_of result) out.new (moved_from Text text.now out.old) }
 {
     records::size_fault(text)?;
-    let found = scan::scan(text)?;
-    put_out(text, found.taken, out)
+    match scan::scan(text) {
+        Ok(found) => put_out(text, found.taken, out),
+        Err(fault) => Err(fault),
+    }
 }
 
 pub fn to_groups(text: &[u8], out: &mut [u8]) -> Moved

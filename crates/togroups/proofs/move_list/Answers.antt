@@ -20,15 +20,12 @@ returns-in_err-size_fault c =
 pub scan-requires : goal.scan-requires
 scan-requires c = its_size _ (sized (goal.at.scan-requires c).In_ok-size_fault)
 
-pub returns-in_err-found : goal.returns-in_err-found
-returns-in_err-found c =
-    let told = err_from_is_err_and c.from_residual-in_err-found.result c.from_residual-in_err-found.ensures.1 in
-    rw (told.1, told.2)
-    (faulty _ _ (sized (goal.at.returns-in_err-found c).In_ok-size_fault) c.in_err-found.ensures (refusal_some _) refl)
+pub returns-in-Err : goal.returns-in-Err
+returns-in-Err c = faulty _ _ (sized (goal.at.returns-in-Err c).In_ok-size_fault) c.in-Err.ensures (refusal_some _) refl
 
 pub put_out-requires : goal.put_out-requires
-put_out-requires c = taken-text _ _ (sized (goal.at.put_out-requires c).In_ok-size_fault) c.in_ok-found.ensures.0
+put_out-requires c = taken-text _ _ (sized (goal.at.put_out-requires c).In_ok-size_fault) c.in-Ok.ensures.0
 
-pub returns : goal.returns
-returns c =
-    moves _ _ _ _ (taken-text _ _ (sized (goal.at.returns c).In_ok-size_fault) c.in_ok-found.ensures.0) c.put_out.ensures
+pub returns-in-Ok : goal.returns-in-Ok
+returns-in-Ok c =
+    moves _ _ _ _ (taken-text _ _ (sized (goal.at.returns-in-Ok c).In_ok-size_fault) c.in-Ok.ensures.0) c.put_out.ensures

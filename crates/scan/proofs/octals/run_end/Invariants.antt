@@ -3,8 +3,8 @@ use Rattle.std.proofs.Common.{◌+◌, ◌-◌, ◌≤◌, ◌≡◌, length, dr
 use Rattle.scan.specs.Runs.{digit_run}
 use Rattle.scan.proofs.octals.run_end.Given as goal
 
-abbrev pub invariant-loop-bytes : goal.invariant-loop-bytes
-invariant-loop-bytes l = (l.i ≤ length l.text) × (l.i + digit_run (drop l.i l.text) ≡ l.from + digit_run (drop l.from l.text))
+abbrev pub invariant-loop-end : goal.invariant-loop-end
+invariant-loop-end l = (l.i ≤ length l.text) × (l.i + digit_run (drop l.i l.text) ≡ l.from + digit_run (drop l.from l.text))
 
-abbrev pub decreases-loop-bytes : goal.decreases-loop-bytes
-decreases-loop-bytes l = length l.text - l.i
+abbrev pub decreases-loop-end : goal.decreases-loop-end
+decreases-loop-end l = length l.text - l.i

@@ -2,20 +2,14 @@
 use Rattle.std.specs.Prelude.{◌+◌, get_or}
 use Rattle.std.proofs.Common.{ap, arith}
 use Rattle.text.specs.ListText.{is_digit_byte}
-use Rattle.scan.proofs.RunLaws.{run_out, run-stop}
-use Rattle.scan.proofs.Tokens.{taken_out, taken-comma, one-digit}
+use Rattle.scan.proofs.RunLaws.{run-stop}
+use Rattle.scan.proofs.Tokens.{taken-comma, one-digit}
 use Rattle.scan.proofs.step.atom.Goals as goal
-
-pub returns-then-second-text : goal.returns-then-second-text
-returns-then-second-text c =
-    let at = c.args.p.at in
-    let stop = run_out c.args.text.now (at + 1) c.if-second-text.true in
-    taken_out c.requires.inside (record { digit = c.requires.at_value; run = omega (arith, stop) }) (one-digit at (get_or c.args.text.now at 0)) c.if-second-text.true
 
 pub returns-then-text-second-eq44 : goal.returns-then-text-second-eq44
 returns-then-text-second-eq44 c =
     let at = c.args.p.at in
-    let stop = run-stop c.args.text.now (at + 1) c.if-second-text.false (ap is_digit_byte c.if-text-second-eq44.true) in
+    let stop = run-stop c.args.text.now (at + 1) c.if-second-text.true (ap is_digit_byte c.if-text-second-eq44.true) in
     rw c.behind.ensures
     (taken-comma c.requires.inside (record { digit = c.requires.at_value; run = omega (arith, stop) }) (one-digit at (get_or c.args.text.now at 0))
-    c.if-second-text.false c.if-text-second-eq44.true)
+    c.if-second-text.true c.if-text-second-eq44.true)
