@@ -173,11 +173,12 @@ module _ (s : List ℕ) (i : ℕ) (bs : List ℕ) (here : IsFirstChunk (take (le
       let eight : digit_run bs ≡ 8 = sym told ∙ ap (λ (n : ℕ). count_trailing_zeros 64 n / 8) z ∙ ap (λ (n : ℕ). n / 8) (trailing_of_zero 64) in
       ap digit_run split ∙ run-all bs (drop (i + 8) s) (eight ∙ sym size) ∙ ap (λ (n : ℕ). n + digit_run (drop (i + 8) s)) size
 
-  pub eight_less : (left (from_le_bytes w64 bs) ≡ 0 → ⊥) → digit_run (drop i s) ≡ count_trailing_zeros 64 (left (from_le_bytes w64 bs)) / 8
-  eight_less n =
-      let none : digit_run bs ≡ length bs → left (from_le_bytes w64 bs) ≡ 0
-      = λ q. ap left word_is ∙ ap (λ (k : ℕ). strange k (word bs)) (sym size) ∙ full-none bs bytes q in
-      ap digit_run split ∙ run-part bs (drop (i + 8) s) (λ q. n (none q)) ∙ sym told
+  module _ (some : left (from_le_bytes w64 bs) ≡ 0 → ⊥) where
+    not_all : digit_run bs ≡ length bs → ⊥
+    not_all q = some (ap left word_is ∙ ap (λ (k : ℕ). strange k (word bs)) (sym size) ∙ full-none bs bytes q)
 
-  pub eight_most : count_trailing_zeros 64 (left (from_le_bytes w64 bs)) / 8 ≤ 8
-  eight_most = omega (arith, told, run_most bs, size)
+    pub eight_less : digit_run (drop i s) ≡ count_trailing_zeros 64 (left (from_le_bytes w64 bs)) / 8
+    eight_less = ap digit_run split ∙ run-part bs (drop (i + 8) s) not_all ∙ sym told
+
+    pub eight_most : count_trailing_zeros 64 (left (from_le_bytes w64 bs)) / 8 < 8
+    eight_most = omega (arith, told, run_most bs, size, not_all)

@@ -31,7 +31,7 @@ open_of d e i = cond (leb levels d) (Err Deep) (Ok (placed (i + 1) (d + 1) (e + 
 abbrev pub too_long_atom : ℕ → ℕ → Bool
 too_long_atom n b = cond (ltb n digits_most) false (cond (ltb digits_most n) true (ltb 51 b))
 
--- where the atom at i ends, or that its digits are too many
+-- where the digits at i end, or that they are too many for an atom
 abbrev pub AtomEnd : List ℕ → ℕ → Option ℕ → Type 0
 AtomEnd s i u =
     let end = i + 1 + digit_run (drop (i + 1) s) in

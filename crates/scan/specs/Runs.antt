@@ -1,5 +1,5 @@
 -- Runs of octal digits.
-use Rattle.std.specs.Prelude.{ℕ, suc, ◌+◌, ◌-◌, ◌*◌, ◌≤◌, ◌≡◌, List, [], ◌∷◌, cond, length, drop, Option, Some, None}
+use Rattle.std.specs.Prelude.{ℕ, suc, ◌+◌, ◌-◌, ◌*◌, ◌<◌, ◌≤◌, ◌≡◌, List, [], ◌∷◌, cond, length, drop, Option, Some, None}
 use lib.Bits.{bit_and, bit_xor}
 use Rattle.text.specs.ListText.{is_digit_byte}
 
@@ -17,7 +17,7 @@ numeral v (b ∷ bs) = cond (is_digit_byte b) (numeral (v * 8 + (b - 48)) bs) v
 abbrev pub left : ℕ → ℕ
 left w = bit_xor (bit_and w 17940362863843014904) 3472328296227680304
 
--- where the digits at i end, within eight bytes; else eight of them stand there, in front of any others
+-- where the digits at i end, if they are fewer than eight; else eight of them stand there, in front of any others
 abbrev pub Near : List ℕ → ℕ → Option ℕ → Type 0
-Near s i (Some e) = (e ≡ i + digit_run (drop i s)) × (e ≤ i + 8)
+Near s i (Some e) = (e ≡ i + digit_run (drop i s)) × (e < i + 8)
 Near s i None = (i + 8 ≤ length s) × (digit_run (drop i s) ≡ 8 + digit_run (drop (i + 8) s))

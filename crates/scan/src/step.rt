@@ -94,15 +94,15 @@ fn too_long(digits: usize, first: u8) -> bool
 
 // Where the digits of an atom end, unless they are too many, as sixteen behind the first are. Nearly every atom ends within
 // eight, and is not too long.
-fn atom_end(text: &[u8], at: usize) -> Option<usize>
-    requires { at < length text.now }
-    ensures { AtomEnd text.now at result }
+fn atom_end(text: &[u8], first: usize) -> Option<usize>
+    requires { first < length text.now }
+    ensures { AtomEnd text.now first result }
 {
-    if let Some(end) = octals::near_end(text, at + 1) {
+    if let Some(end) = octals::near_end(text, first + 1) {
         return Some(end);
     }
-    let end = octals::near_end(text, at + 9)?;
-    if too_long(end - at, text[at]) {
+    let end = octals::near_end(text, first + 9)?;
+    if too_long(end - first, text[first]) {
         return None;
     }
     Some(end)

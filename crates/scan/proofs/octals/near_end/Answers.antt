@@ -24,5 +24,5 @@ returns c =
     let chunk = c.in-Some.ensures.cases in
     let word = c.others-others.ensures in
     let less = eight_less s c.args.from _ chunk c.type_inv.text (rw (← word) c.if-others-eq0.false) in
-    let most = eight_most s c.args.from _ chunk c.type_inv.text in
+    let most = eight_most s c.args.from _ chunk c.type_inv.text (rw (← word) c.if-others-eq0.false) in
     rw word (omega (arith, less), omega (arith, most))
