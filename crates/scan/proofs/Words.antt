@@ -9,7 +9,7 @@ use lib.Bits.{bit_and, bit_xor, block_half, block_odd, and_block, xor_block, and
 use lib.Count.{count_trailing_zeros, under, trailing_of_zero}
 use Rattle.text.specs.ListText.{is_digit_byte}
 use Rattle.text.specs.Laws.TextLaws.{by_case, no_yes}
-use Rattle.scan.specs.Runs.{digit_run, left}
+use Rattle.scan.specs.Runs.{digit_run}
 use Rattle.scan.proofs.RunLaws.{digit_bounds, bounds_digit, run_most, run-all, run-part}
 
 abbrev Bytes : List ℕ → Type 0
@@ -136,6 +136,10 @@ small : (n : ℕ) (l : List ℕ) → ((k : ℕ) → slice_index l k < 256) → B
 small zero l f = tt
 small (suc n) [] f = tt
 small (suc n) (b ∷ l) f = (f 0, small n l (λ k. f (suc k)))
+
+-- the bits of eight bytes that are no digit's
+abbrev pub left : ℕ → ℕ
+left w = bit_xor (bit_and w 17940362863843014904) 3472328296227680304
 
 -- the eight bytes at a place
 module _ (s : List ℕ) (i : ℕ) (bs : List ℕ) (here : IsFirstChunk (take (length s - i) (drop i s)) bs 8) (fits : (k : ℕ) → Fits w8 (slice_index s k)) where

@@ -1,6 +1,5 @@
 -- Runs of octal digits.
 use Rattle.std.specs.Prelude.{ℕ, suc, ◌+◌, ◌-◌, ◌*◌, ◌<◌, ◌≤◌, ◌≡◌, List, [], ◌∷◌, cond, length, drop, Option, Some, None}
-use lib.Bits.{bit_and, bit_xor}
 use Rattle.text.specs.ListText.{is_digit_byte}
 
 -- the number of digits that a text begins with
@@ -12,10 +11,6 @@ digit_run (b ∷ bs) = cond (is_digit_byte b) (suc (digit_run bs)) 0
 abbrev pub numeral : ℕ → List ℕ → ℕ
 numeral v [] = v
 numeral v (b ∷ bs) = cond (is_digit_byte b) (numeral (v * 8 + (b - 48)) bs) v
-
--- the bits of eight bytes that are no digit's
-abbrev pub left : ℕ → ℕ
-left w = bit_xor (bit_and w 17940362863843014904) 3472328296227680304
 
 -- where the digits at i end, if they are fewer than eight; else eight of them stand there, in front of any others
 abbrev pub Near : List ℕ → ℕ → Option ℕ → Type 0

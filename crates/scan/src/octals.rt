@@ -1,8 +1,7 @@
 // Octal digits: one, and a run of them, eight bytes at a time.
 ghost use Rattle.std.specs.Prelude.{◌≡◌, ◌+◌, ◌≤◌, ◌<◌, length, drop};
-ghost use Rattle.std.specs.Int.{from_le_bytes, w64};
 ghost use Rattle.text.specs.ListText.{is_digit_byte};
-ghost use Rattle.scan.specs.Runs.{digit_run, left, Near};
+ghost use Rattle.scan.specs.Runs.{digit_run, Near};
 
 pub fn is_octal(b: u8) -> bool
     ensures { result ≡ is_digit_byte b }
@@ -22,14 +21,8 @@ fn run_by_one(text: &[u8], from: usize) -> usize
         .unwrap_or(rest.len())
 }
 
-// The bits of eight bytes that are no digit's. A byte other than a digit differs from 0x30 above its three low bits.
-fn others(bytes: &[u8; 8]) -> u64
-    ensures { result ≡ left (from_le_bytes w64 bytes.now) }
-{
-    (u64::from_le_bytes(*bytes) & 0xf8f8f8f8f8f8f8f8) ^ 0x3030303030303030
-}
-
-// Where the digits that begin at `from` end, but not where eight stand there: more may follow.
+// Where the digits that begin at `from` end, but not where eight stand there: more may follow. A byte other than a digit
+// differs from 0x30 above its three low bits.
 pub fn near_end(text: &[u8], from: usize) -> Option<usize>
     requires { from ≤ length text.now }
     ensures { Near text.now from result }
@@ -37,7 +30,7 @@ pub fn near_end(text: &[u8], from: usize) -> Option<usize>
     let Some(bytes) = text[from..].first_chunk() else {
         return Some(run_by_one(text, from));
     };
-    let others = others(bytes);
+    let others = (u64::from_le_bytes(*bytes) & 0xf8f8f8f8f8f8f8f8) ^ 0x3030303030303030;
     if others == 0 {
         return None;
     }

@@ -15,14 +15,14 @@ pub returns-then-others-eq0 : goal.returns-then-others-eq0
 returns-then-others-eq0 c =
     let s = c.args.text.now in
     let chunk = c.in-Some.ensures.cases in
-    let word = c.others-others.ensures in
+    let word = c.from_le_bytes.ensures in
     (room s c.args.from _ chunk c.type_inv.text, eight_more s c.args.from _ chunk c.type_inv.text (rw (← word) c.if-others-eq0.true))
 
 pub returns : goal.returns
 returns c =
     let s = c.args.text.now in
     let chunk = c.in-Some.ensures.cases in
-    let word = c.others-others.ensures in
+    let word = c.from_le_bytes.ensures in
     let less = eight_less s c.args.from _ chunk c.type_inv.text (rw (← word) c.if-others-eq0.false) in
     let most = eight_most s c.args.from _ chunk c.type_inv.text (rw (← word) c.if-others-eq0.false) in
     rw word (omega (arith, less), omega (arith, most))
